@@ -2,7 +2,7 @@
 use Rattle.std.proofs.Common.{◌≡◌, ℕ, zero, suc, ◌+◌, ◌<◌, ◌≤◌, ◌⊎◌, inl, inr, List, [], ◌∷◌, ◌++◌, length, Some, subst, sym, ap, refl, arith}
 use Rattle.std.specs.List.{slice_get}
 use Rattle.cr_cursor.specs.declared.passes.Cursor.{Cursor}
-use Rattle.cr_cursor.specs.Variants.{Widths, cursor, level_cursors, pass_cursors, cursors_below, cursors, place_of}
+use Rattle.cr_cursor.specs.Variants.{Widths, cursor, cursors, cursors_below, level_cursors, pass_count, pass_cursors, place_of}
 use Rattle.cr_cursor.proofs.Numbering.{below_or_last, length-level_cursors, level_after, pass_after, all_passes}
 
 -- an item of two lists joined stands in one of them
@@ -76,9 +76,9 @@ of_all w (suc n) i c h = elim (split (cursors_below w n) (pass_cursors w n 16) i
       }
 ]
 
--- a cursor that stands among all is one of the ten passes, of a level below 16, and below its level's width
-pub of_cursors : (w : Widths) (i : ℕ) (c : Cursor) → slice_get (cursors w) i ≡ Some c → IsBelow w 10 16 i c
-of_cursors w i c h = of_all w 10 i c (subst (λ all. slice_get all i ≡ Some c) (all_passes w) h)
+-- a cursor that stands among all is one of the passes, of a level below 16, and below its level's width
+pub of_cursors : (w : Widths) (i : ℕ) (c : Cursor) → slice_get (cursors w) i ≡ Some c → IsBelow w pass_count 16 i c
+of_cursors w i c h = of_all w pass_count i c (subst (λ all. slice_get all i ≡ Some c) (all_passes w) h)
 
 pub level_fits : (w : Widths) (pass level n : ℕ) → level < n → length (pass_cursors w pass level) + w pass level ≤ length (pass_cursors w pass n)
 level_fits w pass level zero h = absurd (omega arith)
@@ -95,8 +95,8 @@ pass_fits w pass (suc n) h = elim (below_or_last pass n h) [
 ]
 
 -- the place of a cursor is at most the number of all variants
-pub place_within : (w : Widths) (c : Cursor) → c.pass < 10 → c.level < 16 → place_of w c ≤ length (cursors w)
+pub place_within : (w : Widths) (c : Cursor) → c.pass < pass_count → c.level < 16 → place_of w c ≤ length (cursors w)
 place_within w c pass level =
     let by_level = level_fits w c.pass c.level 16 level in
-    let by_pass = pass_fits w c.pass 10 pass in
+    let by_pass = pass_fits w c.pass pass_count pass in
     omega (arith, by_level, by_pass, ap length (all_passes w))

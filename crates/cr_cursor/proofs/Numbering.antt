@@ -3,7 +3,7 @@ use Rattle.std.proofs.Common.{◌≡◌, ℕ, zero, suc, ◌+◌, ◌<◌, List,
 use Rattle.std.specs.List.{slice_get}
 use Rattle.std.proofs.lemmas.List.{length-append}
 use Rattle.cr_cursor.specs.declared.passes.Cursor.{Cursor}
-use Rattle.cr_cursor.specs.Variants.{Widths, cursor, level_cursors, pass_cursors, cursors_below, cursors}
+use Rattle.cr_cursor.specs.Variants.{Widths, cursor, cursors, cursors_below, level_cursors, pass_count, pass_cursors}
 
 pub front : {A : Type 0} (xs ys : List A) (i : ℕ) (x : A) → slice_get xs i ≡ Some x → slice_get (xs ++ ys) i ≡ Some x
 front [] ys i x h = cc
@@ -48,7 +48,7 @@ pass_after w n = length-append (cursors_below w n) (pass_cursors w n 16)
 pub one_pass : (w : Widths) (n : ℕ) → length (cursors_below w (n + 1)) ≡ length (cursors_below w n) + length (pass_cursors w n 16)
 one_pass w n = rw add-one (pass_after w n)
 
-pub all_passes : (w : Widths) → cursors w ≡ cursors_below w 10
+pub all_passes : (w : Widths) → cursors w ≡ cursors_below w pass_count
 unfolding cursors
 all_passes w = refl
 

@@ -2,6 +2,10 @@
 use Rattle.std.specs.Prelude.{ℕ, zero, suc, ◌+◌, List, [], ◌∷◌, ◌++◌, length, min}
 use Rattle.cr_cursor.specs.declared.passes.Cursor.{Cursor}
 
+-- how many passes are numbered, from 0; one that isn't made, or isn't enabled, offers nothing
+abbrev pub pass_count : ℕ
+pass_count = 12
+
 -- how many variants a pass and a level of it have
 abbrev pub Widths : Type 0
 Widths = ℕ → ℕ → ℕ
@@ -29,9 +33,9 @@ unfoldable pub cursors_below : Widths → ℕ → List Cursor
 cursors_below width zero = []
 cursors_below width (suc n) = cursors_below width n ++ pass_cursors width n 16
 
--- the cursors of all variants, in the ten passes
+-- the cursors of all variants, in all passes
 unfoldable pub cursors : Widths → List Cursor
-cursors width = cursors_below width 10
+cursors width = cursors_below width pass_count
 
 -- The place of a cursor among all; of a cursor past its level's width, the first place after that level.
 abbrev pub place_of : Widths → Cursor → ℕ

@@ -1,14 +1,14 @@
 // Passes of variants.
 ghost use Rattle.std.specs.Prelude.{◌≡◌, ◌<◌, ◌≤◌, ℕ, List, [], length, vec_capacity, IfOk, OnOk, OnErr};
 ghost use Rattle.cr_cursor.specs.declared.passes.Cursor.{Cursor};
-ghost use Rattle.cr_cursor.specs.Variants.{Offer};
+ghost use Rattle.cr_cursor.specs.Variants.{Offer, pass_count};
 
 use std::alloc::{AllocError, Global};
 
 /// Want of memory.
 pub type NoMemory = AllocError;
 
-/// Names a variant of a file: a pass from 0 to 9, a level of it from 0 to 15, and an index below the level's width.
+/// Names a variant of a file: a pass below `PASSES`, a level of it from 0 to 15, and an index below the level's width.
 #[derive(Clone, Copy, Debug, PartialEq, Eq)]
 pub struct Cursor {
     pub pass: u8,
@@ -32,7 +32,7 @@ pub trait Passes {
         requires { length file.now ≤ 1048576 }
         ensures { IfOk result (λ prep. offers self.now file.now (offer self.now prep file.now)) };
 
-    /// The width of a level. A pass that isn't enabled, a pass above 9 and a level that isn't there have width 0.
+    /// The width of a level. A pass that isn't enabled, a pass of `PASSES` or above and a level that isn't there have width 0.
     fn width(&self, prep: &Self::Prep, pass: u8, level: u8) -> u64
         ensures width { (file : List ℕ) → result ≡ (offer self.now prep.now file).widths pass level }
         ensures few { result ≤ 1048576 };
@@ -58,7 +58,7 @@ pub trait Passes {
     ghost few: { (p : Self) (file : List ℕ) (o : Offer) (pass level : ℕ) → offers p file o → o.widths pass level ≤ length file };
 
     /// There are ten passes.
-    ghost ten_passes: { (p : Self) (file : List ℕ) (o : Offer) (pass level : ℕ) → offers p file o → 9 < pass → o.widths pass level ≡ 0 };
+    ghost no_more_passes: { (p : Self) (file : List ℕ) (o : Offer) (pass level : ℕ) → offers p file o → pass_count ≤ pass → o.widths pass level ≡ 0 };
 
     /// A pass has at most 16 levels.
     ghost sixteen_levels: { (p : Self) (file : List ℕ) (o : Offer) (pass level : ℕ) → offers p file o → 15 < level → o.widths pass level ≡ 0 };

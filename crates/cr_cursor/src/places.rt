@@ -5,7 +5,7 @@ ghost use Rattle.cr_cursor.specs.Variants.{cursors, cursors_below, pass_cursors,
 use crate::passes::{Cursor, Passes};
 
 /// How many passes there are.
-pub const PASSES: u8 = 10;
+pub const PASSES: u8 = 12;
 
 /// How many levels a pass has at most.
 pub const LEVELS: u8 = 16;
@@ -13,7 +13,7 @@ pub const LEVELS: u8 = 16;
 /// How many variants a file has, over all passes.
 pub fn positions<P: Passes>(passes: &P, prep: &P::Prep) -> u64
     ensures count { (file : List ℕ) → result ≡ length (cursors (P.offer passes.now prep.now file).widths) }
-    ensures few { result ≤ 167772160 }
+    ensures few { result ≤ 201326592 }
 {
     variants_below(passes, prep, PASSES)
 }

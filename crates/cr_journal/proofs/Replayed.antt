@@ -5,7 +5,7 @@ use Rattle.std.proofs.lemmas.List.Elements.{All-cons, All-nil}
 use Rattle.std.specs.Global.{Vec}
 use Rattle.std.specs.List.{slice_get}
 use Rattle.cr_cursor.specs.TokenLaw.{IsTokenized}
-use Rattle.cr_cursor.specs.Variants.{Offer}
+use Rattle.cr_cursor.specs.Variants.{Offer, pass_count}
 use Rattle.cr_log.specs.declared.reader.Log.{Log}
 use Rattle.cr_reduce.specs.declared.end.Accepted.{Accepted}
 use Rattle.cr_reduce.specs.Keeping.{IsBehind}
@@ -60,17 +60,17 @@ within : (c : Chain) (file last : List ℕ) (before n : ℕ) (rows : List Accept
 within c file last before n [] few there = few
 within c file last before n (one ∷ more) few (further {next = next} step rest) = within c next last one.turn n more step.within rest
 
--- No pass above 9 and no level above 15 has a variant.
+-- No pass behind the last and no level above 15 has a variant.
 pub record AreNarrow (p : Proposals) : Type 0 where
-  pub ten_passes : (file : List ℕ) (o : Offer) (pass level : ℕ) → p file o → 9 < pass → o.widths pass level ≡ 0
+  pub no_more_passes : (file : List ℕ) (o : Offer) (pass level : ℕ) → p file o → pass_count ≤ pass → o.widths pass level ≡ 0
   pub sixteen_levels : (file : List ℕ) (o : Offer) (pass level : ℕ) → p file o → 15 < level → o.widths pass level ≡ 0
 
 module _ (c : Chain) (narrow : AreNarrow c.Offers) where
-  below : (file next : List ℕ) (before : ℕ) (one : Accepted) → IsStep c file before one next → (one.at.pass < 10) × (one.at.level < 16)
+  below : (file next : List ℕ) (before : ℕ) (one : Accepted) → IsStep c file before one next → (one.at.pass < pass_count) × (one.at.level < 16)
   below file next before one step = (
-    elim (cases_lt one.at.pass 10) [
+    elim (cases_lt one.at.pass pass_count) [
       | inl low ↦ low
-      | inr high ↦ absurd (omega (arith, high, step.there, narrow.ten_passes file step.offer one.at.pass one.at.level step.offered (omega (arith, high))))
+      | inr high ↦ absurd (omega (arith, high, step.there, narrow.no_more_passes file step.offer one.at.pass one.at.level step.offered (omega (arith, high))))
     ],
     elim (cases_lt one.at.level 16) [
       | inl low ↦ low
@@ -78,16 +78,16 @@ module _ (c : Chain) (narrow : AreNarrow c.Offers) where
     ],
   )
 
-  last_below : (file last : List ℕ) (before n : ℕ) (rows : List Accepted) → Follows c file before rows last n → ((last_cursor rows).pass < 10) × ((last_cursor rows).level < 16)
+  last_below : (file last : List ℕ) (before n : ℕ) (rows : List Accepted) → Follows c file before rows last n → ((last_cursor rows).pass < pass_count) × ((last_cursor rows).level < 16)
   last_below file last before n [] there = (omega arith, omega arith)
   last_below file last before n (one ∷ []) (further {next = next} step rest) = below file next before one step
   last_below file last before n (one ∷ two ∷ more) (further {next = next} step rest) = last_below next last one.turn n (two ∷ more) rest
 
-  in_passes : (file last : List ℕ) (before n : ℕ) (rows : List Accepted) → Follows c file before rows last n → All (λ row. row.at.pass ≤ 9) rows
-  in_passes file last before n [] there = All-nil (λ row. row.at.pass ≤ 9)
+  in_passes : (file last : List ℕ) (before n : ℕ) (rows : List Accepted) → Follows c file before rows last n → All (λ row. row.at.pass < pass_count) rows
+  in_passes file last before n [] there = All-nil (λ row. row.at.pass < pass_count)
   in_passes file last before n (one ∷ more) (further {next = next} step rest) =
       let low = below file next before one step in
-      All-cons (λ row. row.at.pass ≤ 9) one more (omega (arith, low.0)) (in_passes next last one.turn n more rest)
+      All-cons (λ row. row.at.pass < pass_count) one more (omega (arith, low.0)) (in_passes next last one.turn n more rest)
 
   pub replayed : (file : List ℕ) (last : Vec ℕ) (rows : Vec Accepted) (n : ℕ) → IsTokenized file → Within c.limit 0 → Follows c file 0 rows.items last.items n
       → IsReplayed c file rows.items (kept_behind last rows n)

@@ -2,7 +2,7 @@
 use Rattle.std.specs.Prelude.{◌≡◌, ℕ, ◌<◌, ◌≤◌, List, [], ◌∷◌, All}
 use Rattle.std.specs.Global.{Vec}
 use Rattle.cr_cursor.specs.declared.passes.Cursor.{Cursor}
-use Rattle.cr_cursor.specs.Variants.{cursor}
+use Rattle.cr_cursor.specs.Variants.{cursor, pass_count}
 use Rattle.cr_reduce.specs.Keeping.{IsKeptOf}
 use Rattle.cr_reduce.specs.Reduction.{Within}
 use Rattle.cr_reduce.specs.Sizes.{HasSize}
@@ -25,7 +25,7 @@ pub record IsReplayed (c : Chain) (file : List ℕ) (rows : List Accepted) (kept
   pub follows : Follows c file 0 rows kept.file.items kept.turns
   pub is_kept : IsKeptOf c.Offers file kept
   pub sized : (n : ℕ) × HasSize kept.file.items n
-  pub pass : kept.at.pass < 10
+  pub pass : kept.at.pass < pass_count
   pub level : kept.at.level < 16
   pub within : Within c.limit kept.turns
-  pub passes : All (λ row. row.at.pass ≤ 9) rows
+  pub passes : All (λ row. row.at.pass < pass_count) rows

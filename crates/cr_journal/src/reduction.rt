@@ -9,6 +9,7 @@ ghost use Rattle.cr_reduce.specs.Keeping.{ReducesOnAsTold};
 ghost use Rattle.cr_reduce.specs.Reduction.{Outcome, Within};
 ghost use Rattle.cr_reduce.specs.Search.{AreMade, AreRightBy, IsAllTold, searching};
 ghost use Rattle.cr_reduce.specs.Sizes.{HasSize};
+ghost use Rattle.cr_cursor.specs.Variants.{pass_count};
 
 use crate::keeper::DiskKeeper;
 use cr_cursor::{Law, Passes};
@@ -51,7 +52,7 @@ pub fn reduce_kept<
 where
     P::Prep: Sync,
     requires tokenizes { (n : ℕ) × HasSize kept.file.items n }
-    requires pass { kept.at.pass < 10 }
+    requires pass { kept.at.pass < pass_count }
     requires level { kept.at.level < 16 }
     requires turns { kept.turns < 2 ^ 63 }
     requires within { Within plan.now.limit kept.turns }

@@ -9,21 +9,22 @@ use Rattle.cr_journal_rows.specs.Forms.{HasForm, HasRowForm, IsFirstBad, IsFirst
 use Rattle.cr_journal_rows.specs.declared.fault.JournalFault.{JournalFault}
 use Rattle.cr_journal_rows.specs.declared.fault.JournalFault.TheVariants.{NoMemory, Disk, Bad, Differs}
 use Rattle.cr_journal_rows.specs.declared.header.Header.{Header}
+use Rattle.cr_cursor.specs.Variants.{pass_count}
 
-row_form : (row : Accepted) → row.at.pass ≤ 9 → HasRowForm (row_body row)
+row_form : (row : Accepted) → row.at.pass < pass_count → HasRowForm (row_body row)
 row_form row low = (refl, low)
 
 at_end : (rows : List Accepted) (body : Body) (behind : List Body) → get_or (map row_body rows ++ (body ∷ behind)) (length rows) [] ≡ body
 at_end [] body behind = refl
 at_end (row ∷ more) body behind = at_end more body behind
 
-in_front : (rows : List Accepted) (behind : List Body) → All (λ row. row.at.pass ≤ 9) rows → (j : ℕ) → j < length rows → HasRowForm (get_or (map row_body rows ++ behind) j [])
+in_front : (rows : List Accepted) (behind : List Body) → All (λ row. row.at.pass < pass_count) rows → (j : ℕ) → j < length rows → HasRowForm (get_or (map row_body rows ++ behind) j [])
 in_front [] behind low j short = absurd (omega (arith, short))
 in_front (row ∷ more) behind low zero short = row_form row (low 0 row (omega arith))
 in_front (row ∷ more) behind low (suc j) short = in_front more behind (λ k d within. low (suc k) d (omega (arith, within))) j (omega (arith, short))
 
 -- rows in front of a body that isn't a row's
-pub first_row : (rows : List Accepted) (body : Body) (behind : List Body) → All (λ row. row.at.pass ≤ 9) rows → (HasRowForm body → ⊥)
+pub first_row : (rows : List Accepted) (body : Body) (behind : List Body) → All (λ row. row.at.pass < pass_count) rows → (HasRowForm body → ⊥)
     → IsFirstBadRow (map row_body rows ++ (body ∷ behind)) (length rows + 1)
 first_row rows body behind low bad = record {
   row = length rows;
@@ -35,7 +36,7 @@ first_row rows body behind low bad = record {
 
 module _ (bodies : List (Vec ℕ Global)) (rows : List Accepted) (behind : List (Vec ℕ Global)) (body : Vec ℕ Global)
     (so_far : bodies_of bodies ≡ map row_body rows ++ bodies_of (body ∷ behind)) where
-  pub bad_row : All (λ row. row.at.pass ≤ 9) rows → (length body.items ≡ 31 → HasRowForm body.items → ⊥) → All (λ b. length b ≡ 31) (bodies_of bodies)
+  pub bad_row : All (λ row. row.at.pass < pass_count) rows → (length body.items ≡ 31 → HasRowForm body.items → ⊥) → All (λ b. length b ≡ 31) (bodies_of bodies)
       → IsFirstBadRow (bodies_of bodies) (length rows + 1)
   bad_row low bad sizes =
       let within : length rows < length (bodies_of bodies) =

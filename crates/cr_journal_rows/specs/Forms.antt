@@ -10,6 +10,7 @@ use Rattle.cr_journal_records.specs.Records.{Body, Reads, StandsFirst}
 use Rattle.cr_journal_rows.specs.declared.fault.JournalFault.{JournalFault}
 use Rattle.cr_journal_rows.specs.declared.fault.JournalFault.TheVariants.{NoMemory, Disk, Bad, Differs}
 use Rattle.cr_journal_rows.specs.declared.header.Header.{Header}
+use Rattle.cr_cursor.specs.Variants.{pass_count}
 
 -- the last five bytes of a body
 abbrev pub ending : List ℕ
@@ -44,10 +45,10 @@ HasEnding body = drop 26 body ≡ ending
 
 -- A body of a row ends with five zero bytes, and its pass is one of ten.
 abbrev pub HasRowForm : Body → Type 0
-HasRowForm body = HasEnding body × (get_or body 0 0 ≤ 9)
+HasRowForm body = HasEnding body × (get_or body 0 0 < pass_count)
 
 abbrev pub IsRowBody : Body → Accepted → Type 0
-IsRowBody body row = (body ≡ row_body row) × (row.at.pass ≤ 9) × RowFits row
+IsRowBody body row = (body ≡ row_body row) × (row.at.pass < pass_count) × RowFits row
 
 -- the numbers of a header and of rows fit their bytes
 abbrev pub AllFit : Header → List Accepted → Type 0
@@ -68,7 +69,7 @@ pub record IsFirstBad (bodies : List Body) (i : ℕ) : Type 0 where
 -- isn't in the form.
 abbrev pub Recovers : List ℕ → Result (Option (Header × Vec Accepted)) JournalFault → Type 0
 Recovers image (Ok None) = StandsFirst image → ⊥
-Recovers image (Ok (Some (header, rows))) = (rest : List ℕ) × Reads image (bodies_of header rows.items) rest × All (λ row. row.at.pass ≤ 9) rows.items
+Recovers image (Ok (Some (header, rows))) = (rest : List ℕ) × Reads image (bodies_of header rows.items) rest × All (λ row. row.at.pass < pass_count) rows.items
 Recovers image (Err (Bad i)) = (bodies : List Body) × (rest : List ℕ) × Reads image bodies rest × IsFirstBad bodies i
 Recovers image (Err _) = Unit {0}
 
@@ -80,7 +81,7 @@ RecoversTold (Some s) result = Recovers (seen s) result
 -- what is read of bodies
 abbrev pub ReadsBodies : List (Vec ℕ) → Result (Option (Header × Vec Accepted)) JournalFault → Type 0
 ReadsBodies bodies (Ok None) = bodies ≡ []
-ReadsBodies bodies (Ok (Some (header, rows))) = (reading.bodies_of bodies ≡ bodies_of header rows.items) × All (λ row. row.at.pass ≤ 9) rows.items × AllFit header rows.items
+ReadsBodies bodies (Ok (Some (header, rows))) = (reading.bodies_of bodies ≡ bodies_of header rows.items) × All (λ row. row.at.pass < pass_count) rows.items × AllFit header rows.items
 ReadsBodies bodies (Err (Bad i)) = All (λ body. length body ≡ 31) (reading.bodies_of bodies) → IsFirstBad (reading.bodies_of bodies) i
 ReadsBodies bodies (Err (Differs i)) = ⊥
 ReadsBodies bodies (Err Disk) = ⊥
@@ -95,7 +96,7 @@ pub record IsFirstBadRow (bodies : List Body) (i : ℕ) : Type 0 where
   pub before : (j : ℕ) → j < row → HasRowForm (get_or bodies j [])
 
 abbrev pub ReadsRows : List (Vec ℕ) → Result (Vec Accepted) JournalFault → Type 0
-ReadsRows bodies (Ok rows) = (reading.bodies_of bodies ≡ map row_body rows.items) × All (λ row. row.at.pass ≤ 9) rows.items × All RowFits rows.items
+ReadsRows bodies (Ok rows) = (reading.bodies_of bodies ≡ map row_body rows.items) × All (λ row. row.at.pass < pass_count) rows.items × All RowFits rows.items
 ReadsRows bodies (Err (Bad i)) = All (λ body. length body ≡ 31) (reading.bodies_of bodies) → IsFirstBadRow (reading.bodies_of bodies) i
 ReadsRows bodies (Err (Differs i)) = ⊥
 ReadsRows bodies (Err Disk) = ⊥

@@ -4,15 +4,12 @@ ghost use Rattle.cr_journal_rows.specs.Forms.{HasRowForm, IsRowBody, ReadsRows, 
 
 use crate::JournalFault;
 use crate::number::take_u64;
-use cr_cursor::Cursor;
+use cr_cursor::{Cursor, PASSES};
 use cr_reduce::Accepted;
 use std::alloc::{AllocError, Global};
 
 /// What each body ends with.
 pub const ENDING: [u8; 5] = [0; 5];
-
-/// The highest number of a pass.
-const LAST_PASS: u8 = 9;
 
 /// Whether these bytes are the end of a body.
 pub fn is_ending(bytes: &[u8]) -> bool
@@ -46,7 +43,7 @@ pub fn read_row(body: &[u8]) -> Option<Accepted>
     let (index, rest) = take_u64(rest)?;
     let (size, rest) = take_u64(rest)?;
     let (turn, rest) = take_u64(rest)?;
-    if *pass > LAST_PASS || !is_ending(rest) {
+    if *pass >= PASSES || !is_ending(rest) {
         return None;
     }
     let at = Cursor {

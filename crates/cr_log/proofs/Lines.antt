@@ -8,6 +8,7 @@ use Rattle.std.specs.Int.{IsInRange}
 use Rattle.cr_reduce.specs.declared.end.Accepted.{Accepted}
 use Rattle.cr_log.specs.Texts.{accepted_line, last_line, letter_of, why_word}
 use Rattle.cr_log.specs.Forms.{IsLoggable, IsEnding}
+use Rattle.cr_cursor.specs.Variants.{pass_count}
 
 -- what stands before the first c, and after it, is one
 pub same_cut : (c : ℕ) (xs ys r s : List ℕ) → All (λ x. x ≢ c) xs → All (λ x. x ≢ c) ys → xs ++ c ∷ r ≡ ys ++ c ∷ s → (xs ≡ ys) × (r ≡ s)
@@ -49,9 +50,9 @@ same_end r s e = cc
 abbrev place_of : ℕ → ℕ
 place_of x =
     cond (eqb x 108) 0 (cond (eqb x 116) 1 (cond (eqb x 98) 2 (cond (eqb x 117) 3 (cond (eqb x 115) 4
-    (cond (eqb x 99) 5 (cond (eqb x 105) 6 (cond (eqb x 112) 7 (cond (eqb x 114) 8 9))))))))
+    (cond (eqb x 99) 5 (cond (eqb x 105) 6 (cond (eqb x 112) 7 (cond (eqb x 114) 8 (cond (eqb x 102) 9 (cond (eqb x 118) 10 11))))))))))
 
-place_of-letter_of : (p : ℕ) → p ≤ 9 → place_of (letter_of p) ≡ p
+place_of-letter_of : (p : ℕ) → p < pass_count → place_of (letter_of p) ≡ p
 place_of-letter_of zero h = refl
 place_of-letter_of (suc zero) h = refl
 place_of-letter_of (suc (suc zero)) h = refl
@@ -62,12 +63,14 @@ place_of-letter_of (suc (suc (suc (suc (suc (suc zero)))))) h = refl
 place_of-letter_of (suc (suc (suc (suc (suc (suc (suc zero))))))) h = refl
 place_of-letter_of (suc (suc (suc (suc (suc (suc (suc (suc zero)))))))) h = refl
 place_of-letter_of (suc (suc (suc (suc (suc (suc (suc (suc (suc zero))))))))) h = refl
-place_of-letter_of (suc (suc (suc (suc (suc (suc (suc (suc (suc (suc n)))))))))) h = absurd (omega arith)
+place_of-letter_of (suc (suc (suc (suc (suc (suc (suc (suc (suc (suc zero)))))))))) h = refl
+place_of-letter_of (suc (suc (suc (suc (suc (suc (suc (suc (suc (suc (suc zero))))))))))) h = refl
+place_of-letter_of (suc (suc (suc (suc (suc (suc (suc (suc (suc (suc (suc (suc n)))))))))))) h = absurd (omega arith)
 
-pub same_letter : (p q : ℕ) → p ≤ 9 → q ≤ 9 → letter_of p ≡ letter_of q → p ≡ q
+pub same_letter : (p q : ℕ) → p < pass_count → q < pass_count → letter_of p ≡ letter_of q → p ≡ q
 same_letter p q hp hq e = sym (place_of-letter_of p hp) ∙ ap place_of e ∙ place_of-letter_of q hq
 
-letter_printable : (p : ℕ) → p ≤ 9 → 32 ≤ letter_of p
+letter_printable : (p : ℕ) → p < pass_count → 32 ≤ letter_of p
 letter_printable zero h = omega arith
 letter_printable (suc zero) h = omega arith
 letter_printable (suc (suc zero)) h = omega arith
@@ -78,7 +81,9 @@ letter_printable (suc (suc (suc (suc (suc (suc zero)))))) h = omega arith
 letter_printable (suc (suc (suc (suc (suc (suc (suc zero))))))) h = omega arith
 letter_printable (suc (suc (suc (suc (suc (suc (suc (suc zero)))))))) h = omega arith
 letter_printable (suc (suc (suc (suc (suc (suc (suc (suc (suc zero))))))))) h = omega arith
-letter_printable (suc (suc (suc (suc (suc (suc (suc (suc (suc (suc n)))))))))) h = absurd (omega arith)
+letter_printable (suc (suc (suc (suc (suc (suc (suc (suc (suc (suc zero)))))))))) h = omega arith
+letter_printable (suc (suc (suc (suc (suc (suc (suc (suc (suc (suc (suc zero))))))))))) h = omega arith
+letter_printable (suc (suc (suc (suc (suc (suc (suc (suc (suc (suc (suc (suc n)))))))))))) h = absurd (omega arith)
 
 -- the same acceptance, from its numbers
 abbrev acceptance : ℕ → ℕ → ℕ → ℕ → ℕ → Accepted

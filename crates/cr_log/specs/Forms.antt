@@ -3,10 +3,11 @@ use Rattle.std.specs.Prelude.{◌≡◌, ◌≢◌, ℕ, ◌+◌, ◌^◌, ◌<�
 use Rattle.std.specs.List.{flat_map}
 use Rattle.cr_reduce.specs.declared.end.Accepted.{Accepted}
 use Rattle.cr_log.specs.Texts.{accepted_line, last_line, line_text}
+use Rattle.cr_cursor.specs.Variants.{pass_count}
 
 -- a log can hold this acceptance: its pass has a letter, and its numbers are in their ranges
 pub record IsLoggable (one : Accepted) : Type 0 where
-  pub pass : one.at.pass ≤ 9
+  pub pass : one.at.pass < pass_count
   pub level : one.at.level < 2 ^ 8
   pub index : one.at.index < 2 ^ 64
   pub size : one.size < 2 ^ 64

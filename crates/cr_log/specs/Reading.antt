@@ -4,6 +4,7 @@ use Rattle.cr_log.specs.declared.line.Line.{Line}
 use Rattle.cr_log.specs.declared.line.Line.TheVariants.{Accepted as AcceptedLine, Last as LastLine}
 use Rattle.cr_log.specs.Texts.{letter_of, why_word}
 use Rattle.cr_log.specs.Forms.{IsAcceptedLine, IsLastLine}
+use Rattle.cr_cursor.specs.Variants.{pass_count}
 
 -- what stands before the first such byte, and after it
 pub record IsCut (byte : ℕ) (text before after : List ℕ) : Type 0 where
@@ -27,12 +28,12 @@ pub record IsPair (text : List ℕ) (first second : ℕ) : Type 0 where
 
 -- the letter is this pass's
 pub record IsLetter (letter pass : ℕ) : Type 0 where
-  pub known : pass ≤ 9
+  pub known : pass < pass_count
   pub is : letter ≡ letter_of pass
 
 -- the letter of a pass and a space stand first, and then the rest
 pub record StartsWithPass (line : List ℕ) (pass : ℕ) (rest : List ℕ) : Type 0 where
-  pub known : pass ≤ 9
+  pub known : pass < pass_count
   pub is : line ≡ letter_of pass ∷ 32 ∷ rest
 
 -- `end`, the word for why and the spaces after them stand first, and then the rest

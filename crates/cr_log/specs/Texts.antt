@@ -14,9 +14,9 @@ spaced fields = join_with_byte 32 fields
 abbrev pub line_text : List ℕ → List ℕ
 line_text line = line ++ 10 ∷ []
 
--- the letters of the passes 0 to 9, in order
+-- the letters of the passes, in order
 abbrev pub letter_of : ℕ → ℕ
-letter_of pass = slice_index (codes "ltbusciprf") pass
+letter_of pass = slice_index (codes "ltbusciprfvo") pass
 
 -- the line of an accepted variant: LETTER LEVEL INDEX SIZE TURN
 abbrev pub accepted_line : Accepted → List ℕ

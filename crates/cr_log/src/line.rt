@@ -91,6 +91,8 @@ fn pass_of(letter: u8) -> Option<u8>
         b'p' => Some(7),
         b'r' => Some(8),
         b'f' => Some(9),
+        b'v' => Some(10),
+        b'o' => Some(11),
         _ => None,
     }
 }

@@ -4,6 +4,7 @@ ghost use Rattle.std.specs.String.{string_bytes};
 ghost use Rattle.cr_reduce.specs.declared.end.Why.{Why};
 ghost use Rattle.cr_log.specs.Forms.{IsLog, IsLoggable};
 ghost use Rattle.cr_log.specs.Texts.{accepted_line, letter_of, line_text, log_text_of, summary_text_of, why_number, why_word};
+ghost use Rattle.cr_cursor.specs.Variants.{pass_count};
 
 use cr_cursor::Cursor;
 use cr_outside::NoMemory;
@@ -13,7 +14,7 @@ use std::alloc::Global;
 /// The log of a reduction: a line for each accepted variant, in order, and a last line on the end. `size` is the size of
 /// the end's file.
 pub fn log_text(alloc: Global, end: &End, size: u64) -> Result<Vec<u8>, NoMemory>
-    requires passes { All (λ one. one.at.pass ≤ 9) end.now.accepted.items }
+    requires passes { All (λ one. one.at.pass < pass_count) end.now.accepted.items }
     requires ended { end.now.why ≢ Why.NoMemory }
     ensures text { IfOk result (λ text. text.items ≡ log_text_of end.now size) }
 
@@ -50,7 +51,7 @@ pub fn summary_text(
 }
 
 fn push_accepted(text: &mut String, one: &Accepted) -> Result<(), NoMemory>
-    requires { one.now.at.pass ≤ 9 }
+    requires { one.now.at.pass < pass_count }
     ensures text { OnOk result (string_bytes text.new ≡ string_bytes text.old ++ line_text (accepted_line one.now)) }
     ensures loggable { IsLoggable one.now }
 {
@@ -66,7 +67,7 @@ fn push_accepted(text: &mut String, one: &Accepted) -> Result<(), NoMemory>
 
 // The letter of a pass.
 fn letter(pass: u8) -> &'static str
-    requires { pass ≤ 9 }
+    requires { pass < pass_count }
     ensures { result.now ≡ letter_of pass ∷ [] }
 {
     match pass {
@@ -80,6 +81,8 @@ fn letter(pass: u8) -> &'static str
         7 => "p",
         8 => "r",
         9 => "f",
+        10 => "v",
+        11 => "o",
         _ => unreachable!(),
     }
 }

@@ -5,7 +5,7 @@ use Rattle.cr_meaning.specs.declared.run.Limits.{Limits}
 use Rattle.cr_order.specs.Orders.{IsLawfulInOrder, IsOrderReason}
 use Rattle.cr_order.specs.Orders.IsOrderReason.{of_law, of_order}
 use Rattle.cr_main_task.specs.Task.{IsOfPrograms}
-use Rattle.cr_main_replay_programs.proofs.LawOfPrograms.{law_is_of_programs}
+use Rattle.cr_main_replay.proofs.LawOfPrograms.{law_is_of_programs}
 use Rattle.cr_main.specs.Task.{law_by}
 
 too_long_too : (limits : Limits) (file other : List ℕ) (reason : Reason) → 1048576 < length file → 1048576 < length other → IsOrderReason limits file reason → IsOrderReason limits other reason

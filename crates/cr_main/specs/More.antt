@@ -18,7 +18,7 @@ use Rattle.cr_main_kept.specs.Promises.{AsksOnlyOn, CopiesAtMost, EndsOn, KeepsF
 use Rattle.cr_main_kept.specs.Surviving.{Survives}
 use Rattle.cr_main_kept.specs.declared.header.Marks.{Marks}
 use Rattle.cr_main_replay.specs.Replay.{IsReplayed, Replaying, RunsReplay}
-use Rattle.cr_main_replay_programs.specs.Replay.{replaying_of}
+use Rattle.cr_main_replay.specs.Programs.{replaying_of}
 use Rattle.cr_main_standing.specs.Standing.{by_standing}
 use Rattle.cr_main_task.specs.Bound.{AsksBound, BoundEnded, HasAllBound, HasReducedBound, KeepsBound}
 use Rattle.cr_main_task.specs.Opening.{RunsBound}

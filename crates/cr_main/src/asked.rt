@@ -14,7 +14,7 @@ use cr_formula::{Formula, FormulaFault};
 use cr_lawful::{CLaw, LastRun};
 use cr_lawful_analysis::LastRead;
 use cr_main_formula::ByFormula;
-use cr_main_replay_programs::replay_programs;
+use cr_main_replay::replay_programs;
 use cr_main_task::{Unbound, status};
 use cr_main_words::{Modes, Request, Settings};
 use cr_outside::{Files, Judge, Sink, Test};

@@ -2,7 +2,7 @@
 //! test, reduces, and writes the results. Each status has its cause as a clause of `run`, and the headline is a clause
 //! of it too. What comes of words is a value, and what is done with it is a run of a task (`cr_main_task`), whose promises
 //! are carried over to the words here. Stands on `cr_main_task`, `cr_main_kept`, `cr_main_standing`, `cr_main_formula`,
-//! `cr_main_replay_programs`, `cr_main_words`, `cr_lawful`, `pass_list` and `cr_gen`.
+//! `cr_main_words`, `cr_lawful`, `pass_list` and `cr_gen`.
 #![tactic(auto)]
 
 mod asked;

@@ -7,6 +7,7 @@ ghost use Rattle.cr_main_task.specs.Task.{task_for};
 ghost use Rattle.cr_reduce.specs.Bench.{judging, keys_of, says_of};
 ghost use Rattle.cr_reduce.specs.Reduction.{Within};
 ghost use Rattle.cr_reduce.specs.Sizes.{HasSize};
+ghost use Rattle.cr_cursor.specs.Variants.{pass_count};
 
 use crate::lines::put_fault;
 use cr_cursor::{Law, Passes};
@@ -43,11 +44,11 @@ pub fn reduce_on<
 where
     P::Prep: Sync,
     requires tokenizes { (n : ℕ) × HasSize kept.file.items n }
-    requires pass { kept.at.pass < 10 }
+    requires pass { kept.at.pass < pass_count }
     requires level { kept.at.level < 16 }
     requires turns { kept.turns < 2 ^ 63 }
     requires within { Within task.now.limit kept.turns }
-    requires passes { All (λ row. row.at.pass ≤ 9) kept.accepted.items }
+    requires passes { All (λ row. row.at.pass < pass_count) kept.accepted.items }
     requires workers { (0 < task.now.workers) × (task.now.workers ≤ length bench.old.judges) }
     requires window { (0 < task.now.window) × (task.now.window ≤ 4096) }
     requires forgot { bench.old.kept ≡ [] }

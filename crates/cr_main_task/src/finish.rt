@@ -6,6 +6,7 @@ ghost use Rattle.cr_reduce.specs.Sizes.{HasSize};
 ghost use Rattle.cr_reduce.specs.declared.end.Why.{Why};
 ghost use Rattle.cr_main_task.specs.Outside.{outside};
 ghost use Rattle.cr_main_task.specs.Run.{Concludes, end_status};
+ghost use Rattle.cr_cursor.specs.Variants.{pass_count};
 
 use crate::messages::put;
 use crate::saving::{save, save_beside};
@@ -27,7 +28,7 @@ pub fn conclude<P: Passes, L: Law, A, F: Files, O: Sink>(
     out: &mut O,
 ) -> u8
     requires sized { (n : ℕ) × HasSize end.now.file.items n }
-    requires passes { All (λ one. one.at.pass ≤ 9) end.now.accepted.items }
+    requires passes { All (λ one. one.at.pass < pass_count) end.now.accepted.items }
     ensures { (n : ℕ) × HasSize end.now.file.items n × Concludes task.now.saves task.now.name.now
         (outside F.Outside F.Files.own files.old O.Sink out.old) (outside F.Outside F.Files.own files.new O.Sink out.new) end.now old_size n result }
 {
@@ -59,7 +60,7 @@ struct Texts {
 // Makes the log and the summary. A reduction that ended for want of memory has none.
 fn texts_of(alloc: Global, name: &str, end: &End, old_size: u64) -> Result<Texts, NoMemory>
     requires sized { IsTokenized end.now.file.items }
-    requires passes { All (λ one. one.at.pass ≤ 9) end.now.accepted.items }
+    requires passes { All (λ one. one.at.pass < pass_count) end.now.accepted.items }
     ensures texts { IfOk result (λ texts. (n : ℕ) × HasSize end.now.file.items n
         × (texts.log.items ≡ log_text_of end.now n) × (texts.summary.items ≡ summary_text_of name.now old_size n end.now)) }
     ensures ended { IfOk result (λ _. end.now.why ≢ Why.NoMemory) }

@@ -10,7 +10,7 @@ use Rattle.cr_reduce.specs.declared.end.Why.{Why}
 use Rattle.cr_reduce.specs.declared.end.Why.TheVariants.{Fixed, Limit, Fault, NoMemory}
 use Rattle.cr_reduce.specs.Search.{Search, AcceptsInRun, FailsInRun, RejectsInRun, ReducesFileInRun}
 use Rattle.cr_reduce.specs.Ends.{EndsBy, outcome_of}
-use Rattle.cr_cursor.specs.Variants.{Offer, Widths, cursor, cursors, place_of}
+use Rattle.cr_cursor.specs.Variants.{Offer, Widths, cursor, cursors, pass_count, place_of}
 use Rattle.cr_reduce.specs.Sizes.{HasSize, IsSmaller}
 use Rattle.cr_reduce.specs.Reduction.{FailedTrials, Proposals, Trial, State, Outcome, Reduces, Within, cursors_of, moved, next_round, start_of, taken}
 use Rattle.cr_reduce.specs.Reduction.Reduces.{new_round, fixed, spent, short, accepts, rejects, fails}
@@ -34,14 +34,14 @@ narrow p levels size n file o has offered sized small = record {
 
 -- Each variant from a position on has at least this rank, which is at most that of a round's end.
 record IsAhead (levels : ℕ → ℕ) (size : ℕ) (w : Widths) (position low : ℕ) : Type 0 where
-  within : low ≤ levels_below levels 10 * size
+  within : low ≤ levels_below levels pass_count * size
   past : (j : ℕ) (c : Cursor) → position ≤ j → slice_get (cursors w) j ≡ Some c → low ≤ rank_of levels size c
 
 at_start : (levels : ℕ → ℕ) (size : ℕ) (w : Widths) → IsAhead levels size w 0 0
 at_start levels size w = record { within = omega arith; past = λ j c from there. omega arith }
 
 -- a variant's rank is below that of a round's end
-in_round : (levels : ℕ → ℕ) (size : ℕ) (w : Widths) (i : ℕ) (c : Cursor) → IsNarrow levels size w → slice_get (cursors w) i ≡ Some c → rank_of levels size c < levels_below levels 10 * size
+in_round : (levels : ℕ → ℕ) (size : ℕ) (w : Widths) (i : ℕ) (c : Cursor) → IsNarrow levels size w → slice_get (cursors w) i ≡ Some c → rank_of levels size c < levels_below levels pass_count * size
 in_round levels size w i c fits there =
     let at = of_cursors w i c there in
     rank_below levels size c at.pass (is_level levels w fits.none_above c at.index) (omega (arith, at.index, fits.few c.pass c.level))
@@ -114,20 +114,20 @@ not_limit out st is is_limit = let e = ap (λ o. o.why) is in cc
 -- Where a bound on the turns that are left is within the limit, the reduction from a state on doesn't end by it.
 not_by_limit : (p : Proposals) (A R : Trial) (F : FailedTrials) (levels : ℕ → ℕ) (size : ℕ) (limit : Option ℕ) → HasLevels p levels → ((file variant : List ℕ) → A file variant → IsSmaller variant file)
     → (st : State) (out : Outcome) (n low : ℕ) → p st.file st.offer → HasSize st.file n → n ≤ size → IsAhead levels size st.offer.widths st.position low
-    → Within limit (st.turns + left_of st.changed (levels_below levels 10 * size) n low)
+    → Within limit (st.turns + left_of st.changed (levels_below levels pass_count * size) n low)
     → Reduces p A R F limit st out → out.why ≡ Limit → ⊥
 not_by_limit p A R F levels size limit has smaller st out n low offered sized small ahead bound (new_round end changed rest) is_limit =
     not_by_limit p A R F levels size limit has smaller (next_round st) out n 0 offered sized small (at_start levels size st.offer.widths)
-    (within_less limit _ _ (omega (arith, left_rounds st.changed (levels_below levels 10 * size) n low changed)) bound) rest is_limit
+    (within_less limit _ _ (omega (arith, left_rounds st.changed (levels_below levels pass_count * size) n low changed)) bound) rest is_limit
 not_by_limit p A R F levels size limit has smaller st out n low offered sized small ahead bound (fixed end same is) is_limit = not_limit out st is is_limit
 not_by_limit p A R F levels size limit has smaller st out n low offered sized small ahead bound (spent below limit_is is) is_limit =
     let next = next_ahead levels size st.offer.widths st.position low (narrow p levels size n st.file st.offer has offered sized small) ahead below in
-    absurd (omega (arith, next.within, left_least st.changed (levels_below levels 10 * size) n low, at_most limit st.turns _ limit_is bound))
+    absurd (omega (arith, next.within, left_least st.changed (levels_below levels pass_count * size) n low, at_most limit st.turns _ limit_is bound))
 not_by_limit p A R F levels size limit has smaller st out n low offered sized small ahead bound (short to turns some below all count limit_is is) is_limit =
     let fits = narrow p levels size n st.file st.offer has offered sized small in
     let here = ahead_on levels size st.offer.widths (to - st.position) st.position low to (low + (to - st.position)) (omega arith) refl fits ahead (omega arith) in
     let next = next_ahead levels size st.offer.widths to (low + (to - st.position)) fits here below in
-    absurd (omega (arith, next.within, left_least st.changed (levels_below levels 10 * size) n low, at_most limit turns _ limit_is bound))
+    absurd (omega (arith, next.within, left_least st.changed (levels_below levels pass_count * size) n low, at_most limit turns _ limit_is bound))
 not_by_limit p A R F levels size limit has smaller st out n low offered sized small ahead bound (accepts position at m turns new first sized' count within offered' rest) is_limit =
     let fits = narrow p levels size n st.file st.offer has offered sized small in
     let d = position - st.position in
@@ -137,16 +137,16 @@ not_by_limit p A R F levels size limit has smaller st out n low offered sized sm
     let less : m < n = omega (arith, it.less, one_size (st.offer.bytes at) m it.new_size sized' it.new_is, one_size st.file n it.old_size sized it.old_is) in
     let fits' = narrow p levels size m (st.offer.bytes at) new has offered' sized' (omega arith) in
     let later = ahead_in levels size st.offer.widths new.widths position (low + d) at fits fits' here first.there in
-    let falls = left_falls st.changed (levels_below levels 10 * size) n m (low + d) less in
+    let falls = left_falls st.changed (levels_below levels pass_count * size) n m (low + d) less in
     not_by_limit p A R F levels size limit has smaller (taken st at m turns new) out m (low + d) offered' sized' (omega arith) later
-    (within_less limit _ _ (omega (arith, first.after, left_moves st.changed (levels_below levels 10 * size) n low d here.within, falls)) bound) rest is_limit
+    (within_less limit _ _ (omega (arith, first.after, left_moves st.changed (levels_below levels pass_count * size) n low d here.within, falls)) bound) rest is_limit
 not_by_limit p A R F levels size limit has smaller st out n low offered sized small ahead bound (rejects turns below all count within rest) is_limit =
     let fits = narrow p levels size n st.file st.offer has offered sized small in
     let end = length (cursors_of st.offer) in
     let d = end - st.position in
     let here = ahead_on levels size st.offer.widths d st.position low end (low + d) (omega arith) refl fits ahead (omega arith) in
     not_by_limit p A R F levels size limit has smaller (moved st end turns) out n (low + d) offered sized small here
-    (within_less limit _ _ (omega (arith, left_moves st.changed (levels_below levels 10 * size) n low d here.within)) bound) rest is_limit
+    (within_less limit _ _ (omega (arith, left_moves st.changed (levels_below levels pass_count * size) n low d here.within)) bound) rest is_limit
 not_by_limit p A R F levels size limit has smaller st out n low offered sized small ahead bound (fails position at turns worker after there before failed count within is) is_limit =
     let other : Fault (turns + 1) worker ≡ Limit = sym (ap (λ o. o.why) is) ∙ is_limit in cc
 
@@ -158,7 +158,7 @@ pub ends_in_time : (p : Proposals) (A R : Trial) (F : FailedTrials) (levels : �
     → (file : List ℕ) (offer : Offer) (out : Outcome) → p file offer → HasSize file size → Within limit (enough_turns levels size) → Reduces p A R F limit (start_of file offer) out → out.why ≡ Limit → ⊥
 ends_in_time p A R F levels size limit has smaller file offer out offered sized enough run is_limit =
     not_by_limit p A R F levels size limit has smaller (start_of file offer) out size 0 offered sized (omega arith) (at_start levels size offer.widths)
-    (within_less limit _ _ (from_start (levels_below levels 10) size) enough) run is_limit
+    (within_less limit _ _ (from_start (levels_below levels pass_count) size) enough) run is_limit
 
 -- so does the end of a chain
 pub in_time : (s : Search) (before now : Judging) (limit : Option ℕ) (file : List ℕ) (e : End) (why : Why) → EndsBy (ReducesFileInRun s before now file) file limit e why

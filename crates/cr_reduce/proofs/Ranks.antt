@@ -3,7 +3,7 @@ use Rattle.std.proofs.Common.{◌≡◌, ℕ, zero, suc, ◌+◌, ◌*◌, ◌<�
 use Rattle.std.proofs.Math.Nat.{mul-le-mul_right, suc-mul}
 use Rattle.std.proofs.lemmas.Bool.{cases_lt, cases_order}
 use Rattle.cr_cursor.specs.declared.passes.Cursor.{Cursor}
-use Rattle.cr_cursor.specs.Variants.{Widths, cursors_below, pass_cursors, place_of}
+use Rattle.cr_cursor.specs.Variants.{Widths, cursors_below, pass_count, pass_cursors, place_of}
 use Rattle.cr_reduce.specs.Bound.{levels_below}
 use Rattle.cr_cursor.proofs.Numbering.{below_or_last}
 use Rattle.cr_cursor.proofs.Members.{IsBelow, level_fits, pass_fits}
@@ -42,7 +42,7 @@ is_level levels w none c index = elim (cases_lt c.level (levels c.pass)) [
 ]
 
 -- in one pass
-rises_in_pass : (levels : ℕ → ℕ) (size : ℕ) (w : Widths) (a c : Cursor) (j : ℕ) → a.index ≤ size → IsBelow w 10 16 j c → place_of w a ≤ j → a.pass ≡ c.pass
+rises_in_pass : (levels : ℕ → ℕ) (size : ℕ) (w : Widths) (a c : Cursor) (j : ℕ) → a.index ≤ size → IsBelow w pass_count 16 j c → place_of w a ≤ j → a.pass ≡ c.pass
     → rank_of levels size a ≤ rank_of levels size c
 rises_in_pass levels size w a c j few at behind same = elim (cases_order a.level c.level) [
   | inr (inl less) ↦ earlier size (step_of levels a) (step_of levels c) a.index c.index (earlier_level levels a c same less) few
@@ -59,7 +59,7 @@ rises_in_pass levels size w a c j few at behind same = elim (cases_order a.level
 ]
 
 -- What stands at or behind the place of a cursor has at least its rank.
-pub rises : (levels : ℕ → ℕ) (size : ℕ) (w : Widths) (a c : Cursor) (j : ℕ) → a.level < levels a.pass → a.index ≤ size → IsBelow w 10 16 j c → place_of w a ≤ j
+pub rises : (levels : ℕ → ℕ) (size : ℕ) (w : Widths) (a c : Cursor) (j : ℕ) → a.level < levels a.pass → a.index ≤ size → IsBelow w pass_count 16 j c → place_of w a ≤ j
     → rank_of levels size a ≤ rank_of levels size c
 rises levels size w a c j level few at behind = elim (cases_order a.pass c.pass) [
   | inr (inl less) ↦ earlier size (step_of levels a) (step_of levels c) a.index c.index (earlier_pass levels a c level less) few
@@ -67,7 +67,7 @@ rises levels size w a c j level few at behind = elim (cases_order a.pass c.pass)
   | inr (inr more) ↦ absurd (omega (arith, at.place, at.index, level_fits w c.pass c.level 16 at.level, pass_fits w c.pass a.pass more))
 ]
 
-pub rank_below : (levels : ℕ → ℕ) (size : ℕ) (c : Cursor) → c.pass < 10 → c.level < levels c.pass → c.index < size → rank_of levels size c < levels_below levels 10 * size
+pub rank_below : (levels : ℕ → ℕ) (size : ℕ) (c : Cursor) → c.pass < pass_count → c.level < levels c.pass → c.index < size → rank_of levels size c < levels_below levels pass_count * size
 rank_below levels size c pass level index =
-    let less : step_of levels c < levels_below levels 10 = omega (arith, levels_fit levels c.pass 10 pass) in
-    omega (arith, earlier size (step_of levels c) (levels_below levels 10) (c.index + 1) 0 less (omega arith))
+    let less : step_of levels c < levels_below levels pass_count = omega (arith, levels_fit levels c.pass pass_count pass) in
+    omega (arith, earlier size (step_of levels c) (levels_below levels pass_count) (c.index + 1) 0 less (omega arith))

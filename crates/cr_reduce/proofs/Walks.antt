@@ -25,7 +25,7 @@ left_low true size count position = omega arith
 left_low false size count position = omega arith
 
 -- An acceptance makes the size fall, and with it the bound.
-pub left_falls : (changed : Bool) (old_size old_count old_position size count position : ℕ) → size < old_size → count ≤ 167772160
+pub left_falls : (changed : Bool) (old_size old_count old_position size count position : ℕ) → size < old_size → count ≤ 201326592
     → left_of true size count position < left_of changed old_size old_count old_position
 left_falls changed old_size old_count old_position size count position less few = omega (arith, left_low changed old_size old_count old_position)
 

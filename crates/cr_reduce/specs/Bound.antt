@@ -1,6 +1,6 @@
 -- How many turns are enough for a reduction to end by itself.
 use Rattle.std.specs.Prelude.{◌≡◌, ℕ, zero, suc, ◌+◌, ◌*◌, ◌≤◌, List, length}
-use Rattle.cr_cursor.specs.Variants.{Offer}
+use Rattle.cr_cursor.specs.Variants.{Offer, pass_count}
 use Rattle.cr_reduce.specs.Reduction.{Proposals}
 
 -- how many levels the passes below n have together, where each pass has so many
@@ -16,4 +16,4 @@ pub record HasLevels (p : Proposals) (levels : ℕ → ℕ) : Type 0 where
 -- A round looks at each index of each level once at most, so at no more positions than the file's size for a level. At
 -- each acceptance the size falls, so there are no more of them than the size, and one round more.
 abbrev pub enough_turns : (ℕ → ℕ) → ℕ → ℕ
-enough_turns levels size = levels_below levels 10 * size * (size + 1) + size
+enough_turns levels size = levels_below levels pass_count * size * (size + 1) + size

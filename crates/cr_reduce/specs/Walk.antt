@@ -34,7 +34,7 @@ pub record IsSound {T : Type 0} (p : Proposals) (offer : T → List ℕ → Offe
   pub small : w.size ≤ 12582912
   pub offered : p w.file.items (offer w.prep w.file.items)
   pub counted : w.count ≡ length (cursors_of (offer w.prep w.file.items))
-  pub few : w.count ≤ 167772160
+  pub few : w.count ≤ 201326592
   pub placed : w.position ≤ w.count
   pub bounded : w.turns + work_of w ≤ 9259400833873739776
 

@@ -7,6 +7,7 @@ ghost use Rattle.cr_reduce.specs.Reduction.{Within};
 ghost use Rattle.cr_reduce.specs.Search.{AreMade, AreRightBy, IsAllTold, searching};
 ghost use Rattle.cr_reduce.specs.Sizes.{HasSize};
 ghost use Rattle.cr_reduce.specs.Walk.{IsSound, state_of};
+ghost use Rattle.cr_cursor.specs.Variants.{pass_count};
 
 use crate::advance::walk_on;
 use crate::end::{End, Kept, Plan, Why};
@@ -44,7 +45,7 @@ pub fn resume<
 where
     P::Prep: Sync,
     requires tokenizes { (n : ℕ) × HasSize kept.file.items n }
-    requires pass { kept.at.pass < 10 }
+    requires pass { kept.at.pass < pass_count }
     requires level { kept.at.level < 16 }
     requires turns { kept.turns < 2 ^ 63 }
     requires within { Within plan.now.limit kept.turns }
@@ -123,7 +124,7 @@ fn not_gone_on(kept: Kept) -> End
 // The walk behind the rows that were accepted, or all of it back where no memory is left.
 fn begin_at<P: Passes>(alloc: Global, passes: &P, kept: Kept) -> Result<Walk<P::Prep>, Kept>
     requires tokenizes { (n : ℕ) × HasSize kept.file.items n }
-    requires pass { kept.at.pass < 10 }
+    requires pass { kept.at.pass < pass_count }
     requires level { kept.at.level < 16 }
     requires turns { kept.turns < 2 ^ 63 }
     ensures sound { IfOk result (IsSound (P.offers passes.now) (P.offer passes.now)) }

@@ -13,7 +13,7 @@ use Rattle.std.proofs.lemmas.Option.{none-some}
 use Rattle.cr_tokens.specs.declared.token.Token.{Token}
 use Rattle.cr_tokens.specs.Tokens.{Tokenizes}
 use Rattle.cr_tokens.proofs.Measures.{falls_length}
-use Rattle.cr_cursor.specs.Variants.{Offer}
+use Rattle.cr_cursor.specs.Variants.{Offer, pass_count}
 use Rattle.cr_syntax.specs.Spells.{AtMost}
 use Rattle.cr_syntax.specs.Units.{most_levels}
 use Rattle.cr_syntax.specs.Words.{lexeme_of, lexemes_of}
@@ -301,7 +301,7 @@ few_known enabled file known pass level is = elim (pass == 0) as (λ t. (if t th
 pub few_variants : (enabled : List Bool) (file : List ℕ) (o : Offer) (pass level : ℕ) → Offers enabled file o → o.widths pass level ≤ length file
 few_variants enabled file o pass level it = subst (λ x. x.widths pass level ≤ length file) (sym it.is) (few_known enabled file it.known pass level it.is_known)
 
--- There are 16 levels at most, and ten passes.
+-- There are 16 levels at most, and no pass stands behind the last.
 no_chunks : (lines level : ℕ) → 15 ≤ level → chunks_of lines 0 level ≡ 0
 no_chunks lines level above = grind (arith, nat_tests)
 
@@ -326,11 +326,11 @@ none_above enabled file o pass level it few = subst (λ x. x.widths pass level �
 pub no_level : (enabled : List Bool) (file : List ℕ) (o : Offer) (pass level : ℕ) → Offers enabled file o → 15 < level → o.widths pass level ≡ 0
 no_level enabled file o pass level it above = none_above enabled file o pass level it (let few = few_levels (pass_by pass) in omega (arith, few, above))
 
-no_lines : (pass chunks others : ℕ) → 9 < pass → others ≡ 0 → (if pass == 0 then chunks else others) ≡ 0
+no_lines : (pass chunks others : ℕ) → pass_count ≤ pass → others ≡ 0 → (if pass == 0 then chunks else others) ≡ 0
 no_lines zero chunks others above none = absurd (omega (arith, above))
 no_lines (suc pass) chunks others above none = behind_lines pass chunks others none
 
-pub no_pass : (enabled : List Bool) (file : List ℕ) (o : Offer) (pass level : ℕ) → Offers enabled file o → 9 < pass → o.widths pass level ≡ 0
+pub no_pass : (enabled : List Bool) (file : List ℕ) (o : Offer) (pass level : ℕ) → Offers enabled file o → pass_count ≤ pass → o.widths pass level ≡ 0
 no_pass enabled file o pass level it above = subst (λ x. x.widths pass level ≡ 0) (sym it.is)
     (no_lines pass (chunks_of it.known.lines 0 level) (length (level_of (menu_at it.known.menus pass) level)) above
     (let count = it.is_known.count in ap (λ (m : Offering). length (level_of m level)) (get_or_past it.known.menus pass nothing (omega (arith, above, count)))))

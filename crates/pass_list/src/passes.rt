@@ -66,7 +66,7 @@ impl<'a> Passes for CPasses<'a> {
 
     ghost few = { λ p file o pass level is. few_variants p.enabled file o pass level is };
 
-    ghost ten_passes = { λ p file o pass level is above. no_pass p.enabled file o pass level is above };
+    ghost no_more_passes = { λ p file o pass level is above. no_pass p.enabled file o pass level is above };
 
     ghost sixteen_levels = { λ p file o pass level is above. no_level p.enabled file o pass level is above };
 

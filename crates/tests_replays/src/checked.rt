@@ -1,5 +1,5 @@
 // A log that is checked in memory.
-use cr_main_replay_programs::replay_programs;
+use cr_main_replay::replay_programs;
 use cr_outside::{MemFiles, MemSink};
 use std::alloc::{AllocError, Global};
 use std::process::Abort;

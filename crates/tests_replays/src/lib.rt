@@ -1,5 +1,5 @@
 //! The tests of the check of logs: `cr_main_replay`, with the passes and the law of programs, by public names alone. It promises nothing,
-//! and stands on `cr_main_replay_programs` and on what its values are made of.
+//! and stands on `cr_main_replay` and on what its values are made of.
 #![tactic(auto)]
 
 #[cfg(test)]

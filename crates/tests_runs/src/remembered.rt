@@ -73,7 +73,7 @@ impl<'a> Passes for Counting<'a> {
 
     ghost few = { λ p file o pass level is. few_variants p.lines.enabled file o pass level is };
 
-    ghost ten_passes = { λ p file o pass level is above. no_pass p.lines.enabled file o pass level is above };
+    ghost no_more_passes = { λ p file o pass level is above. no_pass p.lines.enabled file o pass level is above };
 
     ghost sixteen_levels = { λ p file o pass level is above. no_level p.lines.enabled file o pass level is above };
 

@@ -1,6 +1,6 @@
 use Rattle.std.proofs.Common.{◌≡◌, ◌+◌, length, arith, Some, subst, sym, ap}
 use Rattle.std.specs.List.{slice_get}
-use Rattle.cr_cursor.specs.Variants.{cursors, cursors_below}
+use Rattle.cr_cursor.specs.Variants.{cursors, cursors_below, pass_count}
 use Rattle.cr_cursor.proofs.Numbering.{no_passes, one_pass, in_all, all_passes}
 use Rattle.cr_cursor.proofs.places.cursor_at.Goals as goal
 
@@ -16,7 +16,7 @@ cursor_in-requires g c = (c.requires.0, omega (arith, c.variants_in-variants.ens
 pub returns-then-left-variants : goal.returns-then-left-variants
 returns-then-left-variants g c = λ file.
     let w = (g.P.Passes.offer c.args.passes.now c.args.prep.now file).widths in
-    let there = in_all w 10 c.loop-pass.pass c.loop-pass.left c.cursor_in.result c.loop-pass-test.true (c.cursor_in.ensures file) in
+    let there = in_all w pass_count c.loop-pass.pass c.loop-pass.left c.cursor_in.result c.loop-pass-test.true (c.cursor_in.ensures file) in
     subst (λ k. slice_get (cursors w) k ≡ Some c.cursor_in.result) (sym (c.loop-pass.invariant file))
     (subst (λ all. slice_get all (length (cursors_below w c.loop-pass.pass) + c.loop-pass.left) ≡ Some c.cursor_in.result) (sym (all_passes w)) there)
 

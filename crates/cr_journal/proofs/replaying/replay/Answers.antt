@@ -9,7 +9,7 @@ pub returns-in-To-clause-replayed : goal.returns-in-To-clause-replayed
 returns-in-To-clause-replayed g c =
     let chain = chain_of g.P.Passes c.args.passes.now g.L.Law c.args.law.now (Some c.args.limit) in
     subst (IsReplayed chain c.args.file.items c.args.rows.items) (sym c.kept_at.ensures)
-    (replayed chain (record { ten_passes = g.met.P.Passes.ten_passes c.args.passes.now; sixteen_levels = g.met.P.Passes.sixteen_levels c.args.passes.now })
+    (replayed chain (record { no_more_passes = g.met.P.Passes.no_more_passes c.args.passes.now; sixteen_levels = g.met.P.Passes.sixteen_levels c.args.passes.now })
     c.args.file.items c.in-To.last c.args.rows c.in-To.turns c.requires.tokenizes (omega arith) c.in-To.ensures.0)
 
 pub returns-in-To-clause-every_difference : goal.returns-in-To-clause-every_difference

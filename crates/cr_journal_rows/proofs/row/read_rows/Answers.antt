@@ -7,6 +7,7 @@ use Rattle.cr_journal_records.specs.Reading.{bodies_of}
 use Rattle.cr_journal_rows.specs.Forms.{HasRowForm, IsFirstBadRow, RowFits, row_body}
 use Rattle.cr_journal_rows.proofs.Firsts.{bad_row, one_more}
 use Rattle.cr_journal_rows.proofs.row.read_rows.Goals as goal
+use Rattle.cr_cursor.specs.Variants.{pass_count}
 
 pub returns-in_default : goal.returns-in_default
 returns-in_default c =
@@ -35,6 +36,6 @@ loop-body-preserved c =
     let is : item.items ≡ row_body row = sym c.deref.ensures.value ∙ c.in-Some.ensures.row.0 in
     record {
       so_far = one_more bodies rows behind item so_far row is ∙ ap (λ (l : List Accepted). map row_body l ++ bodies_of behind) (sym c.in-Ok.ensures.items);
-      low = subst (All (λ (r : Accepted). r.at.pass ≤ 9)) (sym c.in-Ok.ensures.items) (All-push (λ (r : Accepted). r.at.pass ≤ 9) rows row c.loop-body.invariant.low c.in-Some.ensures.row.1);
+      low = subst (All (λ (r : Accepted). r.at.pass < pass_count)) (sym c.in-Ok.ensures.items) (All-push (λ (r : Accepted). r.at.pass < pass_count) rows row c.loop-body.invariant.low c.in-Some.ensures.row.1);
       fits = subst (All RowFits) (sym c.in-Ok.ensures.items) (All-push RowFits rows row c.loop-body.invariant.fits c.in-Some.ensures.row.2);
     }

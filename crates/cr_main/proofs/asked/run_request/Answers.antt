@@ -2,7 +2,7 @@ use Rattle.std.proofs.Common.{length, refl, subst, sym}
 use Rattle.std.specs.String.{string_bytes}
 use Rattle.cr_reduce.specs.Bench.{judging, says_of}
 use Rattle.cr_main_replay.specs.Replay.{RunsReplay}
-use Rattle.cr_main_replay_programs.specs.Replay.{replaying_of}
+use Rattle.cr_main_replay.specs.Programs.{replaying_of}
 use Rattle.cr_main_task.specs.Outside.{outside}
 use Rattle.cr_main_words.specs.declared.request.Request.{Request}
 use Rattle.cr_main.specs.More.{Does, LeavesOthers, MayRun}

@@ -2,7 +2,7 @@ use Rattle.std.proofs.Common.{subst}
 use Rattle.cr_outside.specs.Test.{asks_test, tells_test}
 use Rattle.cr_reduce.specs.Bench.{judging, says_of}
 use Rattle.cr_lawful.specs.Lawful.{IsLawful, IsReason}
-use Rattle.cr_main_replay_programs.proofs.LawOfPrograms.{law_is_of_programs}
+use Rattle.cr_main_replay.proofs.LawOfPrograms.{law_is_of_programs}
 use Rattle.cr_main_task.specs.Outside.{outside}
 use Rattle.cr_main_task.specs.Run.{by_epochs}
 use Rattle.cr_main_task.proofs.Reading.{runs_alike}

@@ -1,4 +1,4 @@
-use Rattle.cr_main_replay_programs.proofs.LawOfPrograms.{law_is_of_programs}
+use Rattle.cr_main_replay.proofs.LawOfPrograms.{law_is_of_programs}
 use Rattle.cr_main.proofs.OrderedLaw.{order_is_of_programs}
 use Rattle.cr_main.proofs.given.run_in_modes.Goals as goal
 

@@ -5,8 +5,8 @@ use Rattle.cr_outside.specs.Story.{files_told}
 use Rattle.pass_list.specs.Offers.{Offers}
 use Rattle.cr_main_task.specs.Outside.{outside}
 use Rattle.cr_main_replay.specs.Replay.{IsReplayed, Replaying, RunsReplay}
-use Rattle.cr_main_replay_programs.proofs.LawOfPrograms.{law_is_of_programs}
-use Rattle.cr_main_replay_programs.proofs.replay.replay_programs.Goals as goal
+use Rattle.cr_main_replay.proofs.LawOfPrograms.{law_is_of_programs}
+use Rattle.cr_main_replay.proofs.programs.replay_programs.Goals as goal
 
 -- by the law with these limits
 abbrev replaying_within : Limits → List Bool → List ℕ → List ℕ → Replaying

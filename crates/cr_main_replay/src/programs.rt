@@ -2,18 +2,18 @@
 ghost use Rattle.std.specs.Prelude.{◌≡◌, ◌⊎◌};
 ghost use Rattle.cr_outside.specs.Story.{files_told};
 ghost use Rattle.cr_main_replay.specs.Replay.{IsReplayed, RunsReplay};
-ghost use Rattle.cr_main_replay_programs.specs.Replay.{replaying_of};
+ghost use Rattle.cr_main_replay.specs.Programs.{replaying_of};
 ghost use Rattle.cr_main_task.specs.Outside.{outside};
 
+use crate::replay::{Replay, run_replay};
 use cr_lawful::CLaw;
 use cr_lawful_analysis::LastRead;
-use cr_main_replay::{Replay, run_replay};
 use cr_outside::{Files, Sink};
 use pass_list::CPasses;
 use std::alloc::Global;
 
 /// Checks the log of this name against the file of this name and its copy, as the reduction was asked for: with runs of so many
-/// steps, and these of the ten passes.
+/// steps, and these passes.
 pub fn replay_programs<F: Files, O: Sink>(
     alloc: Global,
     steps: u64,
