@@ -23,6 +23,6 @@ returns-then-left-variants g c = λ file.
 pub unreachable-requires : goal.unreachable-requires
 unreachable-requires g c =
     let w = (g.P.Passes.offer c.args.passes.now c.args.prep.now c.requires.0).widths in
-    let last : c.loop-pass.pass ≡ 10 = omega arith in
+    let last : c.loop-pass.pass ≡ pass_count = omega arith in
     let whole = subst (λ k. c.args.position ≡ length (cursors_below w k) + c.loop-pass.left) last (c.loop-pass.invariant c.requires.0) in
     omega (arith, whole, c.requires.1, ap length (all_passes w))
