@@ -1,8 +1,7 @@
 // The whole program before and behind main (C11 5.1.2).
 ghost use Rattle.std.specs.Prelude.{◌≡◌, List};
 ghost use Rattle.std.specs.List.{AllZip};
-ghost use Rattle.cr_meaning.specs.Language.{went};
-ghost use Rattle.cr_meaning.specs.World.{Answer, next};
+ghost use Rattle.cr_meaning.specs.World.{Answer};
 ghost use Rattle.cr_meaning.specs.Nodes.{entering, deeper, last_in};
 ghost use Rattle.cr_meaning.specs.Meaning.{main_entered, program_before, program_end};
 ghost use Rattle.cr_eval.specs.Table.{program_of};

@@ -1,5 +1,5 @@
 // The objects of names.
-ghost use Rattle.std.specs.Prelude.{◌≡◌, ℕ, None, slice_index_or, [], ◌∷◌, MatchOption, OnOk, IfOk, IfErr};
+ghost use Rattle.std.specs.Prelude.{◌≡◌, [], ◌∷◌, MatchOption, OnOk, IfOk, IfErr};
 ghost use Rattle.cr_meaning.specs.World.{object_for, bound, mark};
 ghost use Rattle.cr_exec_world.specs.Names.{binding_of};
 

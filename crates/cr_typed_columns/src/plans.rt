@@ -9,7 +9,7 @@ use crate::checked::CheckedColumns;
 use crate::copying::copied;
 use crate::rows::{Named, rows};
 use cr_check_expressions::Member;
-use cr_check_initialisers::{Line, puts};
+use cr_check_initialisers::puts;
 use cr_check_types::Table;
 use cr_rows::{Row, row_at};
 use cr_syntax::{Kind, Node, kind_at};
