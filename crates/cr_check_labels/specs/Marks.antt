@@ -6,6 +6,7 @@ use Rattle.cr_check_constants.specs.declared.constant.Constant.TheVariants.{NotC
 use Rattle.cr_check_constants.specs.Operators.{cast_of}
 use Rattle.cr_syntax.specs.declared.node.Kind.{Kind}
 use Rattle.cr_syntax.specs.declared.node.Kind.TheVariants as kind
+use Rattle.cr_syntax.specs.declared.node.Node.{Node}
 use Rattle.cr_syntax.specs.Numbered.{parts_if}
 use Rattle.cr_check_operands.specs.Values.{Valued, number, value_of_seen}
 use Rattle.cr_check_expressions.specs.Ruled.{value}
