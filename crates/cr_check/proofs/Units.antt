@@ -12,7 +12,8 @@ use Rattle.cr_scopes_bindings.specs.declared.bindings.Bindings.{Bindings}
 use Rattle.cr_scopes_bindings.specs.Spellings.{AreSpellings}
 use Rattle.cr_scopes_bindings.specs.Last.{AreLast}
 use Rattle.cr_scopes_bindings.specs.Nodes.{name_at, tag_at}
-use Rattle.cr_scopes_bindings.specs.Entities.{content_entity, AreOf}
+use Rattle.cr_scopes_bindings.specs.Entities.{content_entity}
+use Rattle.cr_rows.specs.Columns.{AreOf}
 use Rattle.cr_scopes_bindings.specs.Visible.{AreVisible}
 use Rattle.cr_scopes_bindings.specs.Bindings.{AreBindings}
 use Rattle.cr_check_declarations.specs.declared.tree.Tree.{Tree}

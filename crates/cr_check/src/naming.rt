@@ -7,8 +7,9 @@ ghost use Rattle.cr_check.specs.NameFaults.{IsFirstNameFault, IsFirstRepeated, N
 
 use crate::checked::{declarations_of, gather};
 use cr_check_definitions::repeated;
+use cr_rows::entry_at;
 use cr_scopes::{NameFault, Names, token_of};
-use cr_scopes_bindings::{link_at, name_at};
+use cr_scopes_bindings::name_at;
 use cr_syntax::{Node, Unit, number_of};
 use std::alloc::{AllocError, Global};
 
@@ -61,7 +62,10 @@ fn stands_again_before(names: &Names, token: Option<u32>, before: u32) -> bool
 fn stands_again(names: &Names, token: u32) -> bool
     ensures { result ≡ stands_again names.now token }
 {
-    match first_declared(names, link_at(names.of_token.as_slice(), token as usize)) {
+    match first_declared(
+        names,
+        entry_at(names.of_token.as_slice(), token as usize, None),
+    ) {
         Some(first) => first != token,
         None => false,
     }

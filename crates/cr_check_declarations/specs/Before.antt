@@ -2,6 +2,7 @@
 use Rattle.std.specs.Prelude.{ℕ, ◌<◌, List, [], Bool, false, Option, None, Some, length, map, slice_get, slice_index_or}
 use Rattle.cr_syntax.specs.declared.node.Kind.{Kind}
 use Rattle.cr_syntax.specs.declared.node.Node.{Node}
+pub use Rattle.cr_syntax.specs.Numbered.{kind_if, first_if, first_in, parts_if}
 use Rattle.cr_check_types.specs.declared.layout.Layout.{Layout}
 use Rattle.cr_check_types.specs.declared.shape.Shape.{Shape}
 use Rattle.cr_check_types.specs.Types.{Qualified, unknown, type_at}
@@ -18,33 +19,9 @@ use Rattle.cr_check_declarations.specs.declared.before.Columns.{Columns}
 
 -- ---- nodes by number
 
-abbrev pub kind_if : Option Node → Option Kind
-kind_if None = None
-kind_if (Some node) = Some node.kind
-
 abbrev pub kind_in : List Node → Option ℕ → Option Kind
 kind_in nodes None = None
 kind_in nodes (Some node) = kind_if (slice_get nodes node)
-
-abbrev pub first_if : Option Node → ℕ
-first_if None = 0
-first_if (Some node) = node.first
-
-abbrev pub first_in : List Node → Option ℕ → ℕ
-first_in nodes None = 0
-first_in nodes (Some node) = first_if (slice_get nodes node)
-
-abbrev pub last_if : Option Node → ℕ
-last_if None = 0
-last_if (Some node) = node.last
-
-abbrev pub last_in : List Node → Option ℕ → ℕ
-last_in nodes None = 0
-last_in nodes (Some node) = last_if (slice_get nodes node)
-
-abbrev pub parts_if : Option Node → List ℕ
-parts_if None = []
-parts_if (Some node) = node.parts
 
 abbrev pub parts_in : List Node → Option ℕ → List ℕ
 parts_in nodes None = []
@@ -87,9 +64,6 @@ before_at shapes columns = record {
 abbrev pub type_in : (ℕ → Qualified) → Option ℕ → Qualified
 type_in at None = unknown
 type_in at (Some node) = at node
-
-abbrev pub derived_in : (ℕ → Qualified) → Option ℕ → Qualified
-derived_in at node = type_in at node
 
 abbrev pub specified_in : (ℕ → Specified) → Option ℕ → Specified
 specified_in at None = nothing

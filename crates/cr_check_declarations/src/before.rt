@@ -4,13 +4,13 @@ ghost use Rattle.cr_check_expressions.specs.declared.known.Declared.TheVariants.
 ghost use Rattle.cr_check_expressions.specs.Known.{declared_by};
 ghost use Rattle.cr_check_declarators.specs.Specifiers.{nothing};
 ghost use Rattle.cr_check_declarators.specs.Declarators.{name_alone};
-ghost use Rattle.cr_check_declarations.specs.Before.{Before, before_at, AreColumns, type_in, derived_in, declarator_in, specified_in, enumerated_in};
+ghost use Rattle.cr_check_declarations.specs.Before.{Before, before_at, AreColumns, type_in, declarator_in, specified_in, enumerated_in};
 
 use cr_check_declarators::{BARE, Declarator, Enumerated, Specified, UNSAID};
 use cr_check_expressions::{Declared, Member};
 use cr_check_operands::Fact;
 use cr_check_types::{Layout, Table};
-use cr_rows::Row;
+use cr_rows::{Row, entry_at, row_at};
 
 /// What the nodes so far have: columns with one entry a node, and what is not there is as nothing. A number is that of a row of
 /// types.
@@ -45,18 +45,8 @@ pub fn specified_of(columns: &Columns, node: Option<u32>) -> Specified
     ensures { result ≡ specified_in (λ p. slice_index_or columns.now.specified.now p nothing) node }
 {
     match node {
-        Some(node) => specified_at(columns.specified, node as usize),
+        Some(node) => entry_at(columns.specified, node as usize, UNSAID),
         None => UNSAID,
-    }
-}
-
-fn specified_at(specified: &[Specified], at: usize) -> Specified
-    ensures { result ≡ slice_index_or specified.now at nothing }
-{
-    if at < specified.len() {
-        specified[at]
-    } else {
-        UNSAID
     }
 }
 
@@ -67,15 +57,9 @@ pub fn named_of(table: &Table, columns: &Columns, node: Option<u32>) -> u32
     ensures is { type_at table.now result ≡ type_in (before_at table.now columns.now).named node }
 {
     match node {
-        Some(node) => number_at(columns.named, node as usize),
+        Some(node) => entry_at(columns.named, node as usize, 0),
         None => 0,
     }
-}
-
-fn number_at(numbers: &[u32], at: usize) -> u32
-    ensures { result ≡ slice_index_or numbers.now at 0 }
-{
-    if at < numbers.len() { numbers[at] } else { 0 }
 }
 
 /// What a declarator has.
@@ -83,18 +67,8 @@ pub(crate) fn declarator_of(columns: &Columns, node: Option<u32>) -> Declarator
     ensures { result ≡ declarator_in (λ p. slice_index_or columns.now.declarators.now p name_alone) node }
 {
     match node {
-        Some(node) => declarator_at(columns.declarators, node as usize),
+        Some(node) => entry_at(columns.declarators, node as usize, BARE),
         None => BARE,
-    }
-}
-
-fn declarator_at(declarators: &[Declarator], at: usize) -> Declarator
-    ensures { result ≡ slice_index_or declarators.now at name_alone }
-{
-    if at < declarators.len() {
-        declarators[at]
-    } else {
-        BARE
     }
 }
 
@@ -104,7 +78,7 @@ pub(crate) fn derivations_at(table: &Table, columns: &Columns, node: u32) -> u32
     ensures within { result < length table.now }
     ensures is { type_at table.now result ≡ (before_at table.now columns.now).derived node }
 {
-    number_at(columns.derivations, node as usize)
+    entry_at(columns.derivations, node as usize, 0)
 }
 
 /// An enumerator.
@@ -112,18 +86,8 @@ pub(crate) fn enumerated_of(columns: &Columns, node: Option<u32>) -> Option<Enum
     ensures { result ≡ enumerated_in (λ p. slice_index_or columns.now.enumerated.now p None) node }
 {
     match node {
-        Some(node) => enumerated_at(columns.enumerated, node as usize),
+        Some(node) => entry_at(columns.enumerated, node as usize, None),
         None => None,
-    }
-}
-
-fn enumerated_at(enumerated: &[Option<Enumerated>], at: usize) -> Option<Enumerated>
-    ensures { result ≡ slice_index_or enumerated.now at None }
-{
-    if at < enumerated.len() {
-        enumerated[at]
-    } else {
-        None
     }
 }
 
@@ -132,18 +96,8 @@ pub fn declared_of(columns: &Columns, node: Option<u32>) -> Declared
     ensures { result ≡ declared_by columns.now.declared.now node }
 {
     match node {
-        Some(node) => declared_at(columns.declared, node as usize),
+        Some(node) => entry_at(columns.declared, node as usize, Declared::Unclear),
         None => Declared::Unclear,
-    }
-}
-
-fn declared_at(declared: &[Declared], at: usize) -> Declared
-    ensures { result ≡ slice_index_or declared.now at Unclear }
-{
-    if at < declared.len() {
-        declared[at]
-    } else {
-        Declared::Unclear
     }
 }
 
@@ -151,27 +105,12 @@ fn declared_at(declared: &[Declared], at: usize) -> Declared
 pub fn parameters_at<'a>(columns: &'a Columns, at: u32) -> &'a [u32]
     ensures { result.now ≡ slice_index_or columns.now.parameters.now at [] }
 {
-    rows_at(columns.parameters, at as usize)
-}
-
-fn rows_at<'a>(rows: &'a [Row<u32>], at: usize) -> &'a [u32]
-    ensures { result.now ≡ slice_index_or rows.now at [] }
-{
-    if at < rows.len() {
-        rows[at].as_slice()
-    } else {
-        &[]
-    }
+    row_at(columns.parameters, at as usize)
 }
 
 /// The members that a member declaration has.
 pub(crate) fn members_at<'a>(columns: &'a Columns, at: u32) -> &'a [Member]
     ensures { result.now ≡ slice_index_or columns.now.members.now at [] }
 {
-    let at = at as usize;
-    if at < columns.members.len() {
-        columns.members[at].as_slice()
-    } else {
-        &[]
-    }
+    row_at(columns.members, at as usize)
 }

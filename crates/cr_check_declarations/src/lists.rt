@@ -13,7 +13,7 @@ use crate::tree::{Tree, kind_of, parts_of};
 use cr_check_declarators::adjusted;
 use cr_check_expressions::{Member, part_at};
 use cr_check_types::Table;
-use cr_rows::Row;
+use cr_rows::{Row, entry_at};
 use cr_scopes_events::declared_by;
 use cr_syntax::{Kind, Node};
 use std::alloc::{AllocError, Global};
@@ -169,7 +169,7 @@ fn member_of(tree: &Tree, columns: &Columns, declarator: u32) -> Member
 {
     Member {
         name: name_number(tree.names, declared_by(tree.nodes, declarator).name),
-        row: number_at(columns.named, declarator as usize),
+        row: entry_at(columns.named, declarator as usize, 0),
     }
 }
 
@@ -178,14 +178,8 @@ fn name_number(names: &[u32], token: Option<u32>) -> u32
 {
     match token {
         None => 0,
-        Some(token) => number_at(names, token as usize),
+        Some(token) => entry_at(names, token as usize, 0),
     }
-}
-
-fn number_at(numbers: &[u32], at: usize) -> u32
-    ensures { result ≡ slice_index_or numbers.now at 0 }
-{
-    if at < numbers.len() { numbers[at] } else { 0 }
 }
 
 fn all_members(

@@ -1,11 +1,12 @@
-ghost use Rattle.std.specs.Prelude.{◌≡◌, None, slice_get, slice_index_or};
+ghost use Rattle.std.specs.Prelude.{◌≡◌, None, slice_index_or};
 ghost use Rattle.cr_check_enclosing.specs.Around.{outermost};
 ghost use Rattle.cr_syntax.specs.Words.{AreSpans};
 ghost use Rattle.cr_check_expressions.specs.Known.{spelling_of};
-ghost use Rattle.cr_check_declarations.specs.Before.{kind_in, kind_if, first_in, first_if, last_in, last_if, parts_in, parts_if};
+ghost use Rattle.cr_check_declarations.specs.Before.{kind_in, first_in, parts_in};
 
 use cr_check_enclosing::{Around, OUTERMOST};
-use cr_syntax::{Kind, Node};
+use cr_rows::entry_at;
+use cr_syntax::{Kind, Node, first_token_at, kind_at, parts_at, spelling_at};
 use cr_tokens::Token;
 
 /// The tag of a structure or an enumeration where it is written.
@@ -56,30 +57,14 @@ pub fn kind_of(nodes: &[Node], node: Option<u32>) -> Option<Kind>
     }
 }
 
-fn kind_at(nodes: &[Node], at: usize) -> Option<Kind>
-    ensures { result ≡ kind_if (slice_get nodes.now at) }
-{
-    if at < nodes.len() {
-        Some(nodes[at].kind)
-    } else {
-        None
-    }
-}
-
 /// The first token of a node; 0 where there is none.
 pub fn first_of(nodes: &[Node], node: Option<u32>) -> u32
     ensures { result ≡ first_in nodes.now node }
 {
     match node {
-        Some(node) => first_at(nodes, node as usize),
+        Some(node) => first_token_at(nodes, node as usize),
         None => 0,
     }
-}
-
-fn first_at(nodes: &[Node], at: usize) -> u32
-    ensures { result ≡ first_if (slice_get nodes.now at) }
-{
-    if at < nodes.len() { nodes[at].first } else { 0 }
 }
 
 /// The parts of a node.
@@ -92,89 +77,59 @@ pub(crate) fn parts_of<'a>(nodes: &'a [Node], node: Option<u32>) -> &'a [u32]
     }
 }
 
-fn parts_at<'a>(nodes: &'a [Node], at: usize) -> &'a [u32]
-    ensures { result.now ≡ parts_if (slice_get nodes.now at) }
-{
-    if at < nodes.len() {
-        nodes[at].parts.as_slice()
-    } else {
-        &[]
-    }
-}
-
 /// The bytes that spell a token; none where there is no token.
 pub fn spelling<'a>(tree: &'a Tree, token: usize) -> &'a [u8]
     requires { AreSpans tree.now.file.now tree.now.tokens.now }
     ensures { result.now ≡ spelling_of tree.now.file.now tree.now.tokens.now token }
 {
-    if token < tree.tokens.len() {
-        tree.tokens[token].spelling(tree.file)
-    } else {
-        &[]
-    }
+    spelling_at(tree.file, tree.tokens, token)
 }
 
 /// The node above a node.
 pub fn above(tree: &Tree, at: u32) -> Option<u32>
     ensures { result ≡ slice_index_or tree.now.above.now at None }
 {
-    link_at(tree.above, at as usize)
+    entry_at(tree.above, at as usize, None)
 }
 
 /// The part before a node in the node above it.
 pub(crate) fn previous(tree: &Tree, at: u32) -> Option<u32>
     ensures { result ≡ slice_index_or tree.now.previous.now at None }
 {
-    link_at(tree.previous, at as usize)
+    entry_at(tree.previous, at as usize, None)
 }
 
 /// The node that declares the name of an identifier, a call or a typedef name.
 pub fn visible(tree: &Tree, at: u32) -> Option<u32>
     ensures { result ≡ slice_index_or tree.now.visible.now at None }
 {
-    link_at(tree.visible, at as usize)
+    entry_at(tree.visible, at as usize, None)
 }
 
 /// The declaration of a node's name that is visible directly before it.
 pub fn earlier(tree: &Tree, at: u32) -> Option<u32>
     ensures { result ≡ slice_index_or tree.now.earlier.now at None }
 {
-    link_at(tree.earlier, at as usize)
+    entry_at(tree.earlier, at as usize, None)
 }
 
 /// The last declaration before a node that declares the same.
 pub fn same(tree: &Tree, at: u32) -> Option<u32>
     ensures { result ≡ slice_index_or tree.now.same.now at None }
 {
-    link_at(tree.same, at as usize)
-}
-
-fn link_at(links: &[Option<u32>], at: usize) -> Option<u32>
-    ensures { result ≡ slice_index_or links.now at None }
-{
-    if at < links.len() { links[at] } else { None }
+    entry_at(tree.same, at as usize, None)
 }
 
 /// What a node has from above.
 pub(crate) fn around(tree: &Tree, at: u32) -> Around
     ensures { result ≡ slice_index_or tree.now.around.now at outermost }
 {
-    let at = at as usize;
-    if at < tree.around.len() {
-        tree.around[at]
-    } else {
-        OUTERMOST
-    }
+    entry_at(tree.around, at as usize, OUTERMOST)
 }
 
 /// The tag of a specifier.
 pub(crate) fn tag_of(tree: &Tree, at: u32) -> Option<Tag>
     ensures { result ≡ slice_index_or tree.now.tags.now at None }
 {
-    let at = at as usize;
-    if at < tree.tags.len() {
-        tree.tags[at]
-    } else {
-        None
-    }
+    entry_at(tree.tags, at as usize, None)
 }

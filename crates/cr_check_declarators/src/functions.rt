@@ -139,7 +139,8 @@ fn is_constant_char(table: &Table, row: u32) -> bool
     }
 }
 
-fn is_int(table: &Table, row: u32) -> bool
+/// Whether a row's type is `int`, whatever its qualifiers.
+pub fn is_int(table: &Table, row: u32) -> bool
     requires { row < length table.now }
     ensures { result ≡ is_int (type_at table.now row) }
 {
@@ -149,7 +150,8 @@ fn is_int(table: &Table, row: u32) -> bool
     }
 }
 
-fn is_plain_int(table: &Table, row: u32) -> bool
+/// Whether a row's type is `int` without qualifiers.
+pub fn is_plain_int(table: &Table, row: u32) -> bool
     requires { row < length table.now }
     ensures { result ≡ is_plain_int (type_at table.now row) }
 {

@@ -28,7 +28,9 @@ pub use declared::{
     is_whole_object, open_fault, pointed,
 };
 pub use enumerators::{Enumerated, Given, enumeration_kind, enumerator_by};
-pub use functions::{Library, Signature, agree, has_library_type, library_of};
+pub use functions::{
+    Library, Signature, agree, has_library_type, is_int, is_plain_int, library_of,
+};
 pub use laws::cells_are_counted;
 pub use linkages::{
     Declaration, Linkage, is_again, linkage_of, may_be_initialised, with_declaration,

@@ -5,6 +5,7 @@ ghost use Rattle.cr_check_declarators.specs.Structures.{is_constant_leaf, holds_
 
 use crate::declarator::MOST_CELLS;
 use cr_check_types::{Layout, NOTHING, Table, closed, with_member};
+use cr_rows::entry_at;
 use cr_syntax::CType;
 
 /// What a structure has by its members.
@@ -70,15 +71,9 @@ fn is_constant_leaf(fixed: &[bool], of: CType) -> bool
     ensures { result ≡ is_constant_leaf (λ n. slice_index_or fixed.now n false) of }
 {
     match of {
-        CType::Struct(node) => flag_at(fixed, node as usize),
+        CType::Struct(node) => entry_at(fixed, node as usize, false),
         _ => false,
     }
-}
-
-fn flag_at(flags: &[bool], at: usize) -> bool
-    ensures { result ≡ slice_index_or flags.now at false }
-{
-    if at < flags.len() { flags[at] } else { false }
 }
 
 /// Whether a structure has more cells than one may have (K7).

@@ -1,17 +1,17 @@
 // K40.
-ghost use Rattle.std.specs.Prelude.{◌≡◌, slice_index_or};
+ghost use Rattle.std.specs.Prelude.{◌≡◌};
 ghost use Rattle.std.specs.List.{list_all, list_any};
 ghost use Rattle.cr_syntax.specs.Words.{AreSpans};
-ghost use Rattle.cr_check_declarators.specs.Specifiers.{nothing};
 ghost use Rattle.cr_check_definitions.specs.Known.{AreKnown, known_of};
 ghost use Rattle.cr_check_definitions.specs.Defined.{is_declaration, is_defined, is_definition, is_extern, is_extern_by, is_extern_class, is_open, is_open_at, is_undefined, is_used};
 
-use crate::known::{Declarations, declared_at, first_part, kind_above, link_at, parts_at, spelled};
+use crate::known::{Declarations, first_part, kind_above, spelled};
 use crate::mains::has_main;
 use cr_check_declarators::{Class, Specified, UNSAID, library_of};
 use cr_check_expressions::Declared;
+use cr_rows::entry_at;
 use cr_scopes::{Entity, Names};
-use cr_syntax::Kind;
+use cr_syntax::{Kind, parts_at};
 
 /// Whether `main` is defined as a program's first function, and each function but the library's, and each object, that is used is defined
 /// in the file (K40).
@@ -62,7 +62,7 @@ fn is_open(declarations: &Declarations, token: u32) -> bool
     requires { AreSpans declarations.now.file.now declarations.now.tokens.now }
     ensures { result ≡ is_open (known_of declarations.now) token }
 {
-    match link_at(declarations.declarers, token) {
+    match entry_at(declarations.declarers, token as usize, None) {
         Some(node) => is_open_at(declarations, token, node),
         None => false,
     }
@@ -73,7 +73,7 @@ fn is_open_at(declarations: &Declarations, token: u32, node: u32) -> bool
     ensures { result ≡ is_open_at (known_of declarations.now) token node }
 {
     let above = kind_above(declarations, node);
-    match declared_at(declarations.declared, node) {
+    match entry_at(declarations.declared, node as usize, Declared::Unclear) {
         Declared::Function(..) => {
             !is_definition(above) && library_of(spelled(declarations, token)).is_none()
         }
@@ -104,23 +104,16 @@ fn is_declaration(kind: Option<Kind>) -> bool
 fn is_extern(declarations: &Declarations, node: u32) -> bool
     ensures { result ≡ is_extern (known_of declarations.now) node }
 {
-    match link_at(declarations.above, node) {
-        Some(above) => match first_part(parts_at(declarations.nodes, above)) {
-            Some(specifiers) => is_extern_by(specified_at(declarations.specified, specifiers)),
+    match entry_at(declarations.above, node as usize, None) {
+        Some(above) => match first_part(parts_at(declarations.nodes, above as usize)) {
+            Some(specifiers) => is_extern_by(entry_at(
+                declarations.specified,
+                specifiers as usize,
+                UNSAID,
+            )),
             None => false,
         },
         None => false,
-    }
-}
-
-fn specified_at(specified: &[Specified], at: u32) -> Specified
-    ensures { result ≡ slice_index_or specified.now at nothing }
-{
-    let at = at as usize;
-    if at < specified.len() {
-        specified[at]
-    } else {
-        UNSAID
     }
 }
 

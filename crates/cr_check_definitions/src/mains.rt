@@ -1,20 +1,21 @@
 // The definition of `main`.
-ghost use Rattle.std.specs.Prelude.{◌≡◌, ◌<◌, [], length, slice_get, slice_index_or};
+ghost use Rattle.std.specs.Prelude.{◌≡◌, ◌<◌, length, slice_get};
 ghost use Rattle.cr_syntax.specs.Words.{AreSpans};
 ghost use Rattle.cr_check_types.specs.Types.{type_at};
 ghost use Rattle.cr_check_types.specs.Relations.{AreRows};
 ghost use Rattle.cr_check_operands.specs.Places.{found_by};
-ghost use Rattle.cr_check_declarators.specs.Functions.{is_char, is_int_kind, is_int, is_plain_int};
+ghost use Rattle.cr_check_declarators.specs.Functions.{is_char};
 ghost use Rattle.cr_check_definitions.specs.Known.{AreKnown, known_of};
 ghost use Rattle.cr_check_definitions.specs.Mains.{has_main, has_mains_type, is_main, is_named_main, is_plain_char, is_unqualified, is_word, is_words, takes_nothing_or_words};
 
-use crate::known::{Declarations, declared_at, kind_at, parts_at, spelled};
+use crate::known::{Declarations, spelled};
+use cr_check_declarators::{is_int, is_plain_int};
 use cr_check_expressions::{Declared, part_at};
 use cr_check_types::{Shape, Table};
 use cr_ints::IntKind;
-use cr_rows::Row;
+use cr_rows::{entry_at, row_at};
 use cr_scopes_events::declared_by;
-use cr_syntax::{CType, Kind};
+use cr_syntax::{CType, Kind, kind_at, parts_at};
 
 /// Whether one of the external declarations defines `main` as `int main(void)`, or with parameters `int` and `char **` (C11 5.1.2.2.1).
 pub(crate) fn has_main(items: &[u32], declarations: &Declarations) -> bool
@@ -30,9 +31,9 @@ fn is_main(declarations: &Declarations, item: u32) -> bool
     requires known { AreKnown declarations.now }
     ensures { result ≡ is_main (known_of declarations.now) item }
 {
-    match kind_at(declarations.nodes, item) {
+    match kind_at(declarations.nodes, item as usize) {
         Some(Kind::FunctionDefinition) => {
-            match part_at(parts_at(declarations.nodes, item), 1) {
+            match part_at(parts_at(declarations.nodes, item as usize), 1) {
                 Some(node) => {
                     is_named_main(declarations, node) && has_mains_type(declarations, node)
                 }
@@ -58,24 +59,13 @@ fn has_mains_type(declarations: &Declarations, node: u32) -> bool
     ensures { result ≡ has_mains_type ((known_of declarations.now).stands node) }
 {
     let table = declarations.table;
-    match declared_at(declarations.declared, node) {
+    match entry_at(declarations.declared, node as usize, Declared::Unclear) {
         Declared::Function(row, more) => {
             is_plain_int(table, row)
                 && !more
-                && takes_nothing_or_words(table, row_at(declarations.parameters, node))
+                && takes_nothing_or_words(table, row_at(declarations.parameters, node as usize))
         }
         _ => false,
-    }
-}
-
-fn row_at<'a>(rows: &'a [Row<u32>], at: u32) -> &'a [u32]
-    ensures { result.now ≡ slice_index_or rows.now at [] }
-{
-    let at = at as usize;
-    if at < rows.len() {
-        rows[at].as_slice()
-    } else {
-        &[]
     }
 }
 
@@ -88,32 +78,6 @@ fn takes_nothing_or_words(table: &Table, rows: &[u32]) -> bool
     } else {
         rows.len() == 0
     }
-}
-
-fn is_int(table: &Table, row: u32) -> bool
-    requires { row < length table.now }
-    ensures { result ≡ is_int (type_at table.now row) }
-{
-    match table.shape(row).of {
-        CType::Int(kind) => is_int_kind(kind),
-        _ => false,
-    }
-}
-
-fn is_int_kind(kind: IntKind) -> bool
-    ensures { result ≡ is_int_kind kind }
-{
-    match kind {
-        IntKind::Int => true,
-        _ => false,
-    }
-}
-
-fn is_plain_int(table: &Table, row: u32) -> bool
-    requires { row < length table.now }
-    ensures { result ≡ is_plain_int (type_at table.now row) }
-{
-    is_int(table, row) && is_unqualified(table.shape(row))
 }
 
 // `char **`, whatever its own qualifiers.

@@ -6,10 +6,11 @@ ghost use Rattle.cr_check_expressions.specs.Ruled.{is_type};
 ghost use Rattle.cr_check_definitions.specs.Known.{AreKnown, known_of};
 ghost use Rattle.cr_check_definitions.specs.Typedefs.{AreFirsts, IsFirstTwice, IsRowOf, IsTwice, differ, entry_of, first_given, is_type_name, is_typedef, typedef_at, typedef_of};
 
-use crate::known::{Declarations, declarator_at, declared_at, link_at, number_at};
-use cr_check_declarators::Declarator;
+use crate::known::Declarations;
+use cr_check_declarators::BARE;
 use cr_check_expressions::Declared;
 use cr_check_types::Table;
+use cr_rows::entry_at;
 use cr_scopes::Names;
 use cr_syntax::{CType, number_of};
 use std::alloc::{AllocError, Global};
@@ -71,7 +72,7 @@ fn typedef_of(declarations: &Declarations, token: u32) -> Option<u32>
     requires { AreKnown declarations.now }
     ensures { IsRowOf declarations.now.table.now result (typedef_of (known_of declarations.now) token) }
 {
-    match link_at(declarations.declarers, token) {
+    match entry_at(declarations.declarers, token as usize, None) {
         Some(node) => typedef_at(declarations, node),
         None => None,
     }
@@ -81,7 +82,7 @@ fn typedef_at(declarations: &Declarations, node: u32) -> Option<u32>
     requires { AreKnown declarations.now }
     ensures { IsRowOf declarations.now.table.now result (typedef_at (known_of declarations.now) node) }
 {
-    let row = number_at(declarations.named, node);
+    let row = entry_at(declarations.named, node as usize, 0);
     if is_typedef(declarations, node) && is_type(declarations.table, row) {
         Some(row)
     } else {
@@ -92,8 +93,8 @@ fn typedef_at(declarations: &Declarations, node: u32) -> Option<u32>
 fn is_typedef(declarations: &Declarations, node: u32) -> bool
     ensures { result ≡ is_typedef (known_of declarations.now) node }
 {
-    is_type_name(declared_at(declarations.declared, node))
-        && declarator_at(declarations.declarators, node)
+    is_type_name(entry_at(declarations.declared, node as usize, Declared::Unclear))
+        && entry_at(declarations.declarators, node as usize, BARE)
             .function
             .is_none()
 }
@@ -152,8 +153,8 @@ fn differs(row: u32, first: Option<u32>) -> bool
 fn first_of(names: &Names, firsts: &[Option<u32>], token: u32) -> Option<u32>
     ensures { result ≡ entry_of firsts.now (slice_index_or names.now.of_token token None) }
 {
-    match link_at(names.of_token.as_slice(), token) {
-        Some(entity) => link_at(firsts, entity),
+    match entry_at(names.of_token.as_slice(), token as usize, None) {
+        Some(entity) => entry_at(firsts, entity as usize, None),
         None => None,
     }
 }

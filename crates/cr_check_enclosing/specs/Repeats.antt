@@ -1,10 +1,7 @@
 -- Which marks of nodes stood in the text before.
 use Rattle.std.specs.Prelude.{◌≡◌, ℕ, zero, suc, ◌<◌, ◌&&◌, ◌||◌, List, Bool, false, Option, Some, None, length, nat_lt, slice_get, slice_index_or}
 use Rattle.cr_syntax.specs.declared.node.Node.{Node}
-
-abbrev pub first_if : Option Node → ℕ
-first_if None = 0
-first_if (Some node) = node.first
+use Rattle.cr_syntax.specs.Numbered.{first_if}
 
 -- where a node stands: its first token
 abbrev pub place_of : List Node → ℕ → ℕ

@@ -1,6 +1,7 @@
 ghost use Rattle.std.specs.Prelude.{◌≡◌, Some, None, IfOk, slice_get, slice_index_or};
 ghost use Rattle.cr_check_enclosing.specs.Around.{AreAround, outermost, inside_if, inside as inside_lem, place_in as place_in_lem, below as below_lem};
 
+use cr_rows::entry_at;
 use cr_syntax::{Kind, Node};
 use std::alloc::{AllocError, Global};
 
@@ -60,7 +61,7 @@ pub fn all_around(
 {
     let mut around = vec![in alloc; OUTERMOST; nodes.len()]?;
     for part in (0..nodes.len()).rev() {
-        around[part] = below(nodes, &around, part, above_at(above, part));
+        around[part] = below(nodes, &around, part, entry_at(above, part, None));
     }
     Ok(around)
 }
@@ -71,7 +72,7 @@ fn below(nodes: &[Node], around: &[Around], part: usize, above: Option<u32>) -> 
 {
     match above {
         Some(number) if part < number as usize => {
-            inside_at(nodes, number, around_at(around, number as usize))
+            inside_at(nodes, number, entry_at(around, number as usize, OUTERMOST))
         }
         _ => OUTERMOST,
     }
@@ -83,22 +84,6 @@ fn inside_at(nodes: &[Node], number: u32, around: Around) -> Around
     let at = number as usize;
     if at < nodes.len() {
         inside(nodes[at].kind, number, around)
-    } else {
-        OUTERMOST
-    }
-}
-
-fn above_at(above: &[Option<u32>], at: usize) -> Option<u32>
-    ensures { result ≡ slice_index_or above.now at None }
-{
-    if at < above.len() { above[at] } else { None }
-}
-
-fn around_at(around: &[Around], at: usize) -> Around
-    ensures { result ≡ slice_index_or around.now at outermost }
-{
-    if at < around.len() {
-        around[at]
     } else {
         OUTERMOST
     }

@@ -2,7 +2,8 @@ ghost use Rattle.std.specs.Prelude.{◌≡◌, ◌&&◌, ◌||◌, ℕ, IfOk, On
 ghost use Rattle.std.specs.HashMap.{get};
 ghost use Rattle.cr_check_enclosing.specs.Repeats.{AreRepeated, has_before, has_mark, is_below, is_mark, mark_in, place_of};
 
-use cr_syntax::Node;
+use cr_rows::entry_at;
+use cr_syntax::{Node, first_token_at};
 use std::alloc::{AllocError, Global};
 use std::collections::HashMap;
 use std::hash::Hash;
@@ -20,8 +21,8 @@ pub fn repeated<K: Hash + Eq + Copy + Drop>(
     let least = least_places(alloc, marks, nodes)?;
     let mut repeated = Vec::new(alloc);
     for at in 0..marks.len() {
-        let mark = mark_at(marks, at);
-        repeated.push(is_behind(&least, mark, place_of(nodes, at)))?;
+        let mark = entry_at(marks, at, None);
+        repeated.push(is_behind(&least, mark, first_token_at(nodes, at)))?;
     }
     Ok(repeated)
 }
@@ -36,22 +37,13 @@ fn least_places<K: Hash + Eq + Copy + Drop>(
 {
     let mut least = HashMap::new(alloc);
     for at in 0..marks.len() {
-        note(&mut least, mark_at(marks, at), place_of(nodes, at))?;
+        note(
+            &mut least,
+            entry_at(marks, at, None),
+            first_token_at(nodes, at),
+        )?;
     }
     Ok(least)
-}
-
-fn mark_at<K: Copy>(marks: &[Option<K>], at: usize) -> Option<K>
-    ensures { result ≡ mark_in marks.now at }
-{
-    if at < marks.len() { marks[at] } else { None }
-}
-
-// Where a node stands: its first token.
-fn place_of(nodes: &[Node], at: usize) -> u32
-    ensures { result ≡ place_of nodes.now at }
-{
-    if at < nodes.len() { nodes[at].first } else { 0 }
 }
 
 fn note<K: Hash + Eq + Copy + Drop>(

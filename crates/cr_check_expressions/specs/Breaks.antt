@@ -2,6 +2,7 @@
 use Rattle.std.specs.Prelude.{◌≡◌, ℕ, zero, suc, ◌-◌, ◌≤◌, ◌==◌, ◌&&◌, ◌||◌, ◌⊎◌, Bool, true, false, not, List, [], ◌∷◌, Option, None, Some, length, nat_lt, nat_le, slice_get, if◌then◌else◌}
 use Rattle.std.specs.Option.{is_some}
 use Rattle.cr_syntax.specs.declared.node.Node.{Node}
+pub use Rattle.cr_syntax.specs.Numbered.{first_if, first_in}
 use Rattle.cr_check_operands.specs.Values.{Seen}
 use Rattle.cr_check_operands.specs.Places.{structure_in}
 use Rattle.cr_check_expressions.specs.declared.least.Break.{Break}
@@ -28,14 +29,6 @@ abbrev pub lacks_three : Seen → Seen → Seen → Seen → Bool
 lacks_three own a b c = is_typed a && lacks_two own b c
 
 -- ---- tokens
-
-abbrev pub first_if : Option Node → ℕ
-first_if None = 0
-first_if (Some node) = node.first
-
-abbrev pub first_in : List Node → Option ℕ → ℕ
-first_in nodes None = 0
-first_in nodes (Some node) = first_if (slice_get nodes node)
 
 -- the token before the second part, which is an operator between two
 abbrev pub between : List Node → List ℕ → ℕ

@@ -2,6 +2,7 @@
 use Rattle.std.specs.Prelude.{ℕ, ℤ, suc, ◌<◌, ◌≤◌, ◌==◌, Bool, false, List, [], ◌∷◌, Option, None, Some, IfSome, length, slice_get, slice_index_or, slice_range, if◌then◌else◌}
 use Rattle.cr_tokens.specs.declared.token.Token.{Token}
 use Rattle.cr_syntax.specs.declared.node.Node.{Node}
+pub use Rattle.cr_syntax.specs.Numbered.{spelling_if, spelling_of}
 use Rattle.cr_check_types.specs.declared.layout.Layout.{Layout}
 use Rattle.cr_check_types.specs.declared.shape.Shape.{Shape}
 use Rattle.cr_check_types.specs.Types.{Qualified, type_at}
@@ -48,13 +49,6 @@ pub record Source : Type 0 where
   pub fixed : ℕ → Bool
 
 -- ---- the same by rows of types
-
-abbrev pub spelling_if : List ℕ → Option Token → List ℕ
-spelling_if file None = []
-spelling_if file (Some token) = slice_range file token.start token.end
-
-abbrev pub spelling_of : List ℕ → List Token → ℕ → List ℕ
-spelling_of file tokens token = spelling_if file (slice_get tokens token)
 
 abbrev pub declared_by : List Declared → Option ℕ → Declared
 declared_by declared None = Unclear

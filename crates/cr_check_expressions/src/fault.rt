@@ -5,7 +5,7 @@ ghost use Rattle.cr_check_operands.specs.Values.{seen_at};
 ghost use Rattle.cr_check_expressions.specs.Known.{AreKnown, source_at, meaning_by, meaning_at};
 ghost use Rattle.cr_check_expressions.specs.Forms.{form_of};
 ghost use Rattle.cr_check_expressions.specs.Ruled.{operands_at, facts_at, AreFacts};
-ghost use Rattle.cr_check_expressions.specs.Breaks.{fault, lacks_one, lacks_two, first_in, first_if, between, names_no_value, first_of, faults_in, combined_faults};
+ghost use Rattle.cr_check_expressions.specs.Breaks.{fault, lacks_one, lacks_two, first_in, between, names_no_value, first_of, faults_in, combined_faults};
 ghost use Rattle.cr_check_expressions.specs.Breaks.{passing_faults, call_faults};
 
 use crate::call::{is_miscalled, mispasses};
@@ -16,7 +16,7 @@ use crate::operands::{is_type, is_typed, operand, part_at, value};
 use crate::rules::{member_in, pointed_structure};
 use cr_check_operands::{Fact, structure_at};
 use cr_check_types::Table;
-use cr_syntax::Node;
+use cr_syntax::{Node, first_token_at};
 
 /// The first row of the table of constraints that an expression breaks, by what it has itself and what the nodes before it have. A
 /// row is judged only where what it speaks of has types.
@@ -140,15 +140,9 @@ fn first_of_part(nodes: &[Node], part: Option<u32>) -> u32
     ensures { result ≡ first_in nodes.now part }
 {
     match part {
-        Some(part) => first_token(nodes, part as usize),
+        Some(part) => first_token_at(nodes, part as usize),
         None => 0,
     }
-}
-
-fn first_token(nodes: &[Node], at: usize) -> u32
-    ensures { result ≡ first_if (slice_get nodes.now at) }
-{
-    if at < nodes.len() { nodes[at].first } else { 0 }
 }
 
 fn member_fault(row: u8, node: &Node, typed: bool, found: Option<u32>) -> Option<Break>

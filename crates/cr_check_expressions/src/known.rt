@@ -1,11 +1,10 @@
 ghost use Rattle.std.specs.Prelude.{◌≡◌, [], None, length, slice_index_or};
 ghost use Rattle.cr_syntax.specs.Words.{AreSpans};
-ghost use Rattle.cr_check_expressions.specs.declared.known.Declared.TheVariants.{Unclear};
 ghost use Rattle.cr_check_expressions.specs.Known.{spelling_of, declared_by, parameters_in, member_row, row_of_name, named_row};
 
 use cr_check_types::Layout;
-use cr_rows::Row;
-use cr_syntax::Node;
+use cr_rows::{Row, entry_at, row_at};
+use cr_syntax::{Node, spelling_at};
 use cr_tokens::Token;
 
 /// What a node declares. A number is that of a row of types.
@@ -64,24 +63,14 @@ pub(crate) fn spelling<'a>(known: &'a Known, token: u32) -> &'a [u8]
     requires { AreSpans known.now.file.now known.now.tokens.now }
     ensures { result.now ≡ spelling_of known.now.file.now known.now.tokens.now token }
 {
-    let at = token as usize;
-    if at < known.tokens.len() {
-        known.tokens[at].spelling(known.file)
-    } else {
-        &[]
-    }
+    spelling_at(known.file, known.tokens, token as usize)
 }
 
 /// The node that declares the name of an identifier or a call.
 pub(crate) fn visible_at(known: &Known, at: u32) -> Option<u32>
     ensures { result ≡ slice_index_or known.now.visible.now at None }
 {
-    let at = at as usize;
-    if at < known.visible.len() {
-        known.visible[at]
-    } else {
-        None
-    }
+    entry_at(known.visible, at as usize, None)
 }
 
 /// What a name stands for, by the node that declares it.
@@ -89,18 +78,8 @@ pub(crate) fn declared_by(known: &Known, node: Option<u32>) -> Declared
     ensures { result ≡ declared_by known.now.declared.now node }
 {
     match node {
-        Some(node) => declared_at(known.declared, node as usize),
+        Some(node) => entry_at(known.declared, node as usize, Declared::Unclear),
         None => Declared::Unclear,
-    }
-}
-
-fn declared_at(declared: &[Declared], at: usize) -> Declared
-    ensures { result ≡ slice_index_or declared.now at Unclear }
-{
-    if at < declared.len() {
-        declared[at]
-    } else {
-        Declared::Unclear
     }
 }
 
@@ -114,43 +93,22 @@ pub(crate) fn parameters_by<'a>(known: &'a Known, node: Option<u32>) -> &'a [u32
     }
 }
 
-fn row_at<'a>(rows: &'a [Row<u32>], at: usize) -> &'a [u32]
-    ensures { result.now ≡ slice_index_or rows.now at [] }
-{
-    if at < rows.len() {
-        rows[at].as_slice()
-    } else {
-        &[]
-    }
-}
-
 /// The row of the type that a type name names.
 pub(crate) fn named_by(known: &Known, node: Option<u32>) -> u32
     ensures { result ≡ named_row known.now.named.now node }
 {
     match node {
-        Some(node) => number_at(known.named, node as usize),
+        Some(node) => entry_at(known.named, node as usize, 0),
         None => 0,
     }
-}
-
-fn number_at(numbers: &[u32], at: usize) -> u32
-    ensures { result ≡ slice_index_or numbers.now at 0 }
-{
-    if at < numbers.len() { numbers[at] } else { 0 }
 }
 
 /// The row of the member of a structure that a token names.
 pub(crate) fn member_row(known: &Known, structure: u32, token: u32) -> Option<u32>
     ensures { result ≡ member_row known.now.names.now known.now.members.now structure token }
 {
-    let name = number_at(known.names, token as usize);
-    let at = structure as usize;
-    if at < known.members.len() {
-        row_of_name(known.members[at].as_slice(), name)
-    } else {
-        None
-    }
+    let name = entry_at(known.names, token as usize, 0);
+    row_of_name(row_at(known.members, structure as usize), name)
 }
 
 fn row_of_name(members: &[Member], name: u32) -> Option<u32>
@@ -168,10 +126,5 @@ fn row_of_name(members: &[Member], name: u32) -> Option<u32>
 pub(crate) fn text_length(known: &Known, at: u32) -> usize
     ensures { result ≡ length (slice_index_or known.now.texts.now at []) }
 {
-    let at = at as usize;
-    if at < known.texts.len() {
-        known.texts[at].len()
-    } else {
-        0
-    }
+    row_at(known.texts, at as usize).len()
 }

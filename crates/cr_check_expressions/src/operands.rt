@@ -1,11 +1,12 @@
 ghost use Rattle.std.specs.Prelude.{◌≡◌, ◌<◌, ◌≤◌, length, slice_get};
 ghost use Rattle.cr_check_types.specs.Types.{type_at};
 ghost use Rattle.cr_check_operands.specs.Values.{valued_at, room_of, seen_at};
-ghost use Rattle.cr_check_expressions.specs.Ruled.{operands_at, value, is_type, is_typed, fact_at, facts_at, AreFacts};
+ghost use Rattle.cr_check_expressions.specs.Ruled.{operands_at, value, is_type, is_typed, facts_at, AreFacts};
 
 use cr_check_constants::Constant;
 use cr_check_operands::{Fact, Value, value_of};
 use cr_check_types::Table;
+use cr_rows::entry_at;
 use cr_syntax::CType;
 
 /// What has no type, where the table's first row is that of none.
@@ -35,15 +36,9 @@ pub fn operand(table: &Table, facts: &[Fact], parts: &[u32], k: usize) -> Fact
     ensures is { seen_at table.now result ≡ operands_at table.now facts.now parts.now k }
 {
     match part_at(parts, k) {
-        Some(part) => fact_at(facts, part as usize),
+        Some(part) => entry_at(facts, part as usize, NO_FACT),
         None => NO_FACT,
     }
-}
-
-fn fact_at(facts: &[Fact], at: usize) -> Fact
-    ensures { result ≡ fact_at facts.now at }
-{
-    if at < facts.len() { facts[at] } else { NO_FACT }
 }
 
 /// The value of a node's part.

@@ -14,7 +14,7 @@ use Rattle.cr_check_expressions.specs.declared.known.Declared.TheVariants.{Objec
 use Rattle.cr_check_expressions.specs.Known.{declared_by, parameters_in, meaning_at, room_of_declared}
 use Rattle.cr_check_expressions.specs.Ruled.{no_fact, fact_at, facts_at}
 use Rattle.cr_check_expressions.proofs.Kept.{seen_kept, grows_on}
-use Rattle.cr_check_initialisers.proofs.Rows.{beyond}
+use Rattle.cr_check_types.proofs.Tables.{beyond}
 use Rattle.cr_check_initialisers.specs.declared.anchor.Anchor.{Anchor}
 use Rattle.cr_check_initialisers.specs.declared.lines.Line.{Line}
 use Rattle.cr_check_initialisers.specs.declared.lines.Line.TheVariants as line

@@ -15,6 +15,7 @@ use cr_check_initialisers::{
     anchor_of_reached, anchor_of_subscript, is_address,
 };
 use cr_check_types::Table;
+use cr_rows::entry_at;
 use cr_syntax::Node;
 
 /// What of an expression's address is constant (C11 6.6p9), by what the nodes before it have; what is no expression has none.
@@ -76,17 +77,7 @@ fn anchor_in(anchors: &[Anchor], parts: &[u32], k: usize) -> Anchor
 {
     match part_at(parts, k) {
         None => Anchor::Moving,
-        Some(part) => anchor_at(anchors, part as usize),
-    }
-}
-
-fn anchor_at(anchors: &[Anchor], at: usize) -> Anchor
-    ensures { result ≡ anchor_at anchors.now at }
-{
-    if at < anchors.len() {
-        anchors[at]
-    } else {
-        Anchor::Moving
+        Some(part) => entry_at(anchors, part as usize, Anchor::Moving),
     }
 }
 

@@ -3,6 +3,7 @@ use Rattle.std.specs.Prelude.{ℕ, ◌*◌, List, [], Bool, true, false, Option,
 use Rattle.cr_syntax.specs.declared.node.Kind.{Kind}
 use Rattle.cr_syntax.specs.declared.node.Kind.TheVariants.{InitializerList, Text}
 use Rattle.cr_syntax.specs.declared.node.Node.{Node}
+pub use Rattle.cr_syntax.specs.Numbered.{first_if, parts_if}
 use Rattle.cr_check_types.specs.declared.shape.Shape.{Shape}
 use Rattle.cr_check_types.specs.Types.{Qualified, type_at}
 use Rattle.cr_check_types.specs.declared.layout.Layout.{Layout}
@@ -56,14 +57,6 @@ is_text_if (Some node) = is_text node.kind
 abbrev pub is_list_if : Option Node → Bool
 is_list_if None = false
 is_list_if (Some node) = is_list node.kind
-
-abbrev pub parts_if : Option Node → List ℕ
-parts_if None = []
-parts_if (Some node) = node.parts
-
-abbrev pub first_if : Option Node → ℕ
-first_if None = 0
-first_if (Some node) = node.first
 
 unfoldable pub known_of : Source → Known
 known_of s = record {

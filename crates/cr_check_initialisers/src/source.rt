@@ -8,7 +8,7 @@ use cr_check_constants::Constant;
 use cr_check_expressions::Member;
 use cr_check_operands::{Fact, Value, value_of};
 use cr_check_types::{Layout, Shape, Table};
-use cr_rows::Row;
+use cr_rows::{Row, entry_at};
 use cr_syntax::{CType, Kind, Node};
 use std::alloc::AllocError;
 
@@ -28,7 +28,7 @@ pub struct Source<'a> {
 }
 
 /// The shape of a row; that of no type where there is no such row.
-#[tactic(auto, using(crate::proofs::Rows::beyond))]
+#[tactic(auto, using(cr_check_types::proofs::Tables::beyond))]
 pub(crate) fn shape_at(source: &Source, row: u32) -> Shape
     ensures is { type_at source.now.table.now row ≡ type_of (type_at source.now.table.now) result }
     ensures below { room_of result ≤ row }
@@ -110,12 +110,7 @@ pub(crate) fn constant_at(source: &Source, node: u32) -> Constant
 pub(crate) fn anchor_at(source: &Source, node: u32) -> Anchor
     ensures { result ≡ (known_of source.now).anchor node }
 {
-    let at = node as usize;
-    if at < source.anchors.len() {
-        source.anchors[at]
-    } else {
-        Anchor::Moving
-    }
+    entry_at(source.anchors, node as usize, Anchor::Moving)
 }
 
 /// Whether an expression is a string literal.
@@ -169,7 +164,7 @@ pub(crate) fn first_at(source: &Source, node: u32) -> u32
 }
 
 /// The value of an expression by its fact; none where the table doesn't have its row.
-#[tactic(auto, using(crate::proofs::Rows::beyond))]
+#[tactic(auto, using(cr_check_types::proofs::Tables::beyond))]
 pub(crate) fn value_by(source: &Source, fact: Fact) -> Value
     ensures is { valued_at source.now.table.now result ≡ value_of_seen (seen_at source.now.table.now fact) }
     ensures within { room_of_value result ≤ length source.now.table.now }

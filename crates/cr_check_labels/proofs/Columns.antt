@@ -8,25 +8,13 @@ use Rattle.cr_syntax.specs.declared.node.Kind.{Kind}
 use Rattle.cr_syntax.specs.declared.node.Kind.TheVariants as kind
 use Rattle.cr_syntax.specs.declared.node.Node.{Node}
 use Rattle.cr_check_enclosing.specs.Repeats.{is_mark, has_mark, has_before, mark_in, repeats_at, AreRepeated}
-use Rattle.cr_check_labels.specs.Columns.{AreOf}
+use Rattle.cr_check_enclosing.proofs.Earlier.{same_mark}
+use Rattle.cr_rows.specs.Columns.{AreOf}
 use Rattle.cr_check_labels.specs.Labelled.{Scene}
 use Rattle.cr_check_labels.specs.Kinds.{is_goto, is_label}
 use Rattle.cr_check_labels.specs.Marks.{case_at, case_by, case_if, default_at, default_by, default_if, label_at, label_by, label_if}
 use Rattle.cr_check_labels.specs.Gotos.{AreLabels, goto_at, goto_by, goto_if}
 use Rattle.cr_check_labels.specs.Again.{AreAgain, is_again, is_repeated, same_name, same_owner, same_value}
-
--- one entry more
-pub one_more : {A : Type 0} (f : ℕ → A) (nothing : A) (column : List A) (k : ℕ) (x : A) → AreOf f nothing k column → x ≡ f k → AreOf f nothing (k + 1) (column ++ x ∷ [])
-one_more f nothing column k x h is = record {
-  count = let e = h.count in omega (arith, length-append column (x ∷ []));
-  each = λ t low. elim (cases_lt t k) [
-    | inl older ↦ get_or-append column (x ∷ []) nothing t (let e = h.count in omega (arith, older)) ∙ h.each t older
-    | inr newest ↦
-        let same : t ≡ k = omega arith in
-        let e : length column ≡ k = h.count in
-        rw same (subst (λ n. slice_index_or (column ++ x ∷ []) n nothing ≡ x) e (get_or-append_seam column x [] nothing) ∙ is)
-  ];
-}
 
 -- the marks of a column are those that a function gives
 among : {K : Type 0} (eq : K → K → Bool) (mark : ℕ → Option K) (marks : List (Option K)) (place : ℕ → ℕ) (count k token : ℕ) (q : K)
@@ -35,10 +23,6 @@ among eq mark marks place count zero token q h low = refl
 among eq mark marks place count (suc k) token q h low =
     ap (λ b. b || (nat_lt (place k) token && is_mark eq q (mark_in marks k))) (among eq mark marks place count k token q h (omega (arith, low)))
     ∙ ap (λ o. has_before eq mark place k token q || (nat_lt (place k) token && is_mark eq q o)) (h.each k (omega (arith, low)))
-
-same_mark : {K : Type 0} (f g : K → Bool) (mark : Option K) → ((q : K) → f q ≡ g q) → has_mark f mark ≡ has_mark g mark
-same_mark f g None h = refl
-same_mark f g (Some mark) h = h mark
 
 -- an entry of a column of repeated marks
 repeats_is : {K : Type 0} (eq : K → K → Bool) (mark : ℕ → Option K) (marks : List (Option K)) (place : ℕ → ℕ) (repeated : List Bool) (count k : ℕ)

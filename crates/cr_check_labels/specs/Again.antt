@@ -2,7 +2,7 @@
 use Rattle.std.specs.Prelude.{◌&&◌, ◌||◌, ◌==◌, ℕ, ℤ, Bool, false, List, Option, length}
 use Rattle.std.specs.Ordering.{int_eq}
 use Rattle.cr_check_enclosing.specs.Repeats.{place_of, repeats_at}
-use Rattle.cr_check_labels.specs.Columns.{AreOf}
+use Rattle.cr_rows.specs.Columns.{AreOf}
 use Rattle.cr_check_labels.specs.Labelled.{Scene}
 use Rattle.cr_check_labels.specs.Marks.{case_at, default_at, label_at}
 

@@ -3,7 +3,7 @@ use Rattle.std.specs.Prelude.{◌+◌, ℕ, zero, suc, Bool, false, List, Option
 use Rattle.cr_syntax.specs.declared.node.Kind.{Kind}
 use Rattle.cr_syntax.specs.declared.node.Kind.TheVariants as kind
 use Rattle.cr_syntax.specs.declared.node.Node.{Node}
-use Rattle.cr_check_labels.specs.Columns.{AreOf}
+use Rattle.cr_rows.specs.Columns.{AreOf}
 use Rattle.cr_check_labels.specs.Labelled.{Scene}
 use Rattle.cr_check_labels.specs.Marks.{label_if}
 use Rattle.cr_check_labels.specs.Again.{same_name}

@@ -1,5 +1,4 @@
 pub mod Labelled
-pub mod Columns
 pub mod Marks
 pub mod Again
 pub mod Gotos

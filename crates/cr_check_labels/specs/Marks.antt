@@ -7,6 +7,7 @@ use Rattle.cr_check_constants.specs.Operators.{cast_of}
 use Rattle.cr_syntax.specs.declared.node.Kind.{Kind}
 use Rattle.cr_syntax.specs.declared.node.Kind.TheVariants as kind
 use Rattle.cr_syntax.specs.declared.node.Node.{Node}
+use Rattle.cr_syntax.specs.Numbered.{parts_if}
 use Rattle.cr_check_operands.specs.Values.{Valued, number, value_of_seen}
 use Rattle.cr_check_expressions.specs.Ruled.{value}
 use Rattle.cr_check_labels.specs.Labelled.{Scene}
@@ -20,10 +21,6 @@ constant_value (Value v) = Some v
 abbrev pub value_for : Valued → Valued → Option ℤ
 value_for (number control) (number label) = constant_value (cast_of (promote_of control.kind) label.constant).constant
 value_for control label = None
-
-abbrev pub parts_if : Option Node → List ℕ
-parts_if None = []
-parts_if (Some node) = node.parts
 
 -- the value of the controlling expression of a `switch`
 abbrev pub control_of : Scene → ℕ → Valued

@@ -121,7 +121,7 @@ fn has_gotos(nodes: &[Node]) -> bool
 
 /// For each `goto` the label that it names: the one of its name on an item of the innermost compound statement around it that has one;
 /// None where there is none (C11 6.8.6.1p1). The error is want of memory.
-#[tactic(auto, using(crate::proofs::Columns::one_more))]
+#[tactic(auto, using(cr_rows::proofs::Columns::one_more))]
 pub fn labels(
     alloc: Global,
     table: &Table,

@@ -3,6 +3,7 @@ ghost use Rattle.cr_check_enclosing.specs.Around.{outermost};
 
 use cr_check_enclosing::{Around, OUTERMOST};
 use cr_check_operands::Fact;
+use cr_rows::entry_at;
 use cr_syntax::Node;
 
 /// What the labels of a unit are judged by. What a column doesn't have is as nothing known.
@@ -21,20 +22,12 @@ pub struct Labelled<'a> {
 pub(crate) fn around_at(labelled: &Labelled, at: usize) -> Around
     ensures { result ≡ slice_index_or labelled.now.around.now at outermost }
 {
-    if at < labelled.around.len() {
-        labelled.around[at]
-    } else {
-        OUTERMOST
-    }
+    entry_at(labelled.around, at, OUTERMOST)
 }
 
 /// The number of a token's spelling.
 pub(crate) fn name_at(labelled: &Labelled, token: u32) -> u32
     ensures { result ≡ slice_index_or labelled.now.names.now token token }
 {
-    if (token as usize) < labelled.names.len() {
-        labelled.names[token as usize]
-    } else {
-        token
-    }
+    entry_at(labelled.names, token as usize, token)
 }

@@ -4,7 +4,7 @@ ghost use Rattle.cr_check_types.specs.Types.{Qualified};
 ghost use Rattle.cr_check_operands.specs.Values.{valued_by};
 ghost use Rattle.cr_check_expressions.specs.Ruled.{AreFacts};
 ghost use Rattle.cr_check_labels.specs.Labelled.{scene_of};
-ghost use Rattle.cr_check_labels.specs.Marks.{case_at as case_of, case_by, case_in, constant_value, control_of, default_at as default_of, label_if, named_in, parts_if, value_for, with_value};
+ghost use Rattle.cr_check_labels.specs.Marks.{case_at as case_of, case_by, case_in, constant_value, control_of, default_at as default_of, label_if, named_in, value_for, with_value};
 
 use crate::labelled::{Labelled, around_at, name_at};
 use cr_check_constants::{Constant, cast};
@@ -12,7 +12,7 @@ use cr_check_expressions::operand;
 use cr_check_operands::{Value, value_of};
 use cr_check_types::Table;
 use cr_ints::promote;
-use cr_syntax::{Kind, Node};
+use cr_syntax::{Kind, Node, parts_at};
 
 fn constant_value(constant: Constant) -> Option<i128>
     ensures { result ≡ constant_value constant }
@@ -35,16 +35,6 @@ fn value_for(control: Value, label: Value) -> Option<i128>
             _ => None,
         },
         _ => None,
-    }
-}
-
-fn parts_at<'a>(nodes: &'a [Node], at: usize) -> &'a [u32]
-    ensures { result.now ≡ parts_if (slice_get nodes.now at) }
-{
-    if at < nodes.len() {
-        nodes[at].parts.as_slice()
-    } else {
-        &[]
     }
 }
 

@@ -6,12 +6,13 @@ ghost use Rattle.cr_check_labels.specs.Again.{is_repeated, same_name, same_owner
 ghost use Rattle.cr_check_labels.specs.Labelled.{scene_of};
 ghost use Rattle.cr_check_labels.specs.Kinds.{is_label};
 ghost use Rattle.cr_check_labels.specs.Marks.{case_at as case_of, default_at as default_of, label_at as label_of};
-ghost use Rattle.cr_check_labels.specs.Columns.{AreOf};
+ghost use Rattle.cr_rows.specs.Columns.{AreOf};
 
 use crate::labelled::{Labelled, around_at};
 use crate::marks::{case_at, default_at, label_at};
 use cr_check_enclosing::repeated;
 use cr_check_types::Table;
+use cr_rows::entry_at;
 use cr_syntax::{Kind, Node};
 use std::alloc::{AllocError, Global};
 
@@ -91,12 +92,6 @@ fn names(alloc: Global, table: &Table, labelled: &Labelled) -> Result<Vec<bool>,
     Ok(again)
 }
 
-fn mark_at(marks: &[bool], at: usize) -> bool
-    ensures { result ≡ slice_index_or marks.now at false }
-{
-    at < marks.len() && marks[at]
-}
-
 fn either(one: bool, other: bool) -> bool
     ensures { result ≡ (one || other) }
 {
@@ -116,8 +111,8 @@ fn any_of(
     let mut again = Vec::with_capacity(alloc, cases.len())?;
     for at in 0..cases.len() {
         again.push(either(
-            mark_at(cases, at),
-            either(mark_at(defaults, at), mark_at(names, at)),
+            entry_at(cases, at, false),
+            either(entry_at(defaults, at, false), entry_at(names, at, false)),
         ))?;
     }
     Ok(again)

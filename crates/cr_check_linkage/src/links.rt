@@ -10,7 +10,7 @@ use cr_check_declarations::{Columns, declared_of, parameters_at};
 use cr_check_declarators::Declaration;
 use cr_check_expressions::Declared;
 use cr_check_types::Table;
-use cr_rows::Row;
+use cr_rows::{Row, entry_at, row_at};
 
 /// What the nodes so far have as declarations of names: columns with one entry a node, and what is not there is as nothing. A number is
 /// that of a row of types.
@@ -30,7 +30,7 @@ pub(crate) fn linked_of(links: &Links, node: Option<u32>) -> Option<Declaration>
 {
     match node {
         None => None,
-        Some(node) => entry_or(links.linked, node, None),
+        Some(node) => entry_at(links.linked, node as usize, None),
     }
 }
 
@@ -57,7 +57,7 @@ pub(crate) fn seen_of<'a>(table: &Table, columns: &'a Columns, node: Option<u32>
         None => no_name(),
         Some(node) => NameRows {
             declared: declared_of(columns, Some(node)),
-            row: entry_or(columns.named, node, 0),
+            row: entry_at(columns.named, node as usize, 0),
             parameters: parameters_at(columns, node),
         },
     }
@@ -79,30 +79,8 @@ pub(crate) fn composite_of<'a>(
         None => no_name(),
         Some(node) => NameRows {
             declared: declared_of(columns, Some(node)),
-            row: entry_or(links.composites, node, 0),
-            parameters: rows_at(links.parameters, node),
+            row: entry_at(links.composites, node as usize, 0),
+            parameters: row_at(links.parameters, node as usize),
         },
-    }
-}
-
-fn rows_at<'a>(rows: &'a [Row<u32>], node: u32) -> &'a [u32]
-    ensures { result.now ≡ slice_index_or rows.now node [] }
-{
-    let at = node as usize;
-    if at < rows.len() {
-        rows[at].as_slice()
-    } else {
-        &[]
-    }
-}
-
-fn entry_or<T: Copy>(column: &[T], node: u32, nothing: T) -> T
-    ensures { result ≡ slice_index_or column.now node nothing }
-{
-    let at = node as usize;
-    if at < column.len() {
-        column[at]
-    } else {
-        nothing
     }
 }

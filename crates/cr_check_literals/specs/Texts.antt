@@ -6,7 +6,7 @@ use Rattle.cr_syntax.specs.declared.node.Kind.TheVariants as kind
 use Rattle.cr_syntax.specs.declared.node.Node.{Node}
 use Rattle.cr_check_constants.specs.Literals.{inside_of}
 use Rattle.cr_check_expressions.specs.Known.{spelling_of}
-use Rattle.cr_check_labels.specs.Columns.{AreOf}
+use Rattle.cr_rows.specs.Columns.{AreOf}
 use Rattle.cr_check_literals.specs.Characters.{bytes_of}
 
 -- so many adjacent literal tokens, from the first on, are joined (6.4.5p5)

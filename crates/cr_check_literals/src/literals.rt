@@ -2,26 +2,14 @@
 ghost use Rattle.std.specs.Prelude.{◌≡◌, IfOk};
 ghost use Rattle.cr_syntax.specs.Words.{AreSpans};
 ghost use Rattle.cr_check_constants.specs.Literals.{inside_of};
-ghost use Rattle.cr_check_expressions.specs.Known.{spelling_of};
 ghost use Rattle.cr_check_literals.specs.Characters.{bytes_of};
 ghost use Rattle.cr_check_literals.specs.Texts.{joined as joined_of, literal_of, text_at as text_of, AreTexts};
 
 use crate::escape::put_bytes;
 use cr_rows::Row;
-use cr_syntax::{Kind, Node};
+use cr_syntax::{Kind, Node, spelling_at};
 use cr_tokens::Token;
 use std::alloc::{AllocError, Global};
-
-fn spelling<'a>(file: &'a [u8], tokens: &'a [Token], token: usize) -> &'a [u8]
-    requires { AreSpans file.now tokens.now }
-    ensures { result.now ≡ spelling_of file.now tokens.now token }
-{
-    if token < tokens.len() {
-        tokens[token].spelling(file)
-    } else {
-        &[]
-    }
-}
 
 // What stands between the quotes.
 fn inside(spelling: &[u8]) -> &[u8]
@@ -57,7 +45,7 @@ fn joined(
     let mut bytes = Vec::new(alloc);
     for at in 0..count {
         let token = (first as usize).saturating_add(at);
-        put_bytes(&mut bytes, inside(spelling(file, tokens, token)))?;
+        put_bytes(&mut bytes, inside(spelling_at(file, tokens, token)))?;
     }
     Ok(bytes)
 }

@@ -13,6 +13,7 @@ use crate::value::Value;
 use cr_check_constants::Constant;
 use cr_check_types::Table;
 use cr_ints::IntKind;
+use cr_rows::entry_at;
 use cr_syntax::{CType, Node};
 
 /// Whether a value may be assigned to a place whose value is the target (C11 6.5.16.1p1). So it is with an argument and its
@@ -95,15 +96,9 @@ fn is_fixed(fixed: &[bool], of: CType) -> bool
     ensures { result ≡ is_fixed (λ n. slice_index_or fixed.now n false) of }
 {
     match of {
-        CType::Struct(node) => flag_at(fixed, node as usize),
+        CType::Struct(node) => entry_at(fixed, node as usize, false),
         _ => false,
     }
-}
-
-fn flag_at(flags: &[bool], at: usize) -> bool
-    ensures { result ≡ slice_index_or flags.now at false }
-{
-    if at < flags.len() { flags[at] } else { false }
 }
 
 /// `=` (6.5.16.1): a value of the place's type. `Unknown` where the place isn't modifiable, or the value may not be assigned to it.

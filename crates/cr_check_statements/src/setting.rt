@@ -4,6 +4,7 @@ ghost use Rattle.cr_check_statements.specs.Setting.{result_row};
 
 use cr_check_enclosing::{Around, OUTERMOST};
 use cr_check_operands::Fact;
+use cr_rows::entry_at;
 use cr_syntax::Node;
 
 /// What the statements of a unit are checked by. Each column has one entry a node, and what is not there is as nothing known.
@@ -26,12 +27,7 @@ pub struct Setting<'a> {
 pub(crate) fn around_at(setting: &Setting, at: u32) -> Around
     ensures { result ≡ slice_index_or setting.now.around.now at outermost }
 {
-    let at = at as usize;
-    if at < setting.around.len() {
-        setting.around[at]
-    } else {
-        OUTERMOST
-    }
+    entry_at(setting.around, at as usize, OUTERMOST)
 }
 
 /// The row of what a function gives, by its definition.
@@ -39,37 +35,21 @@ pub(crate) fn result_row(setting: &Setting, function: Option<u32>) -> u32
     ensures { result ≡ result_row setting.now.results.now function }
 {
     match function {
-        Some(node) => number_at(setting.results, node as usize),
+        Some(node) => entry_at(setting.results, node as usize, 0),
         None => 0,
     }
-}
-
-fn number_at(numbers: &[u32], at: usize) -> u32
-    ensures { result ≡ slice_index_or numbers.now at 0 }
-{
-    if at < numbers.len() { numbers[at] } else { 0 }
 }
 
 /// Whether a node repeats an earlier one.
 pub(crate) fn repeats(setting: &Setting, at: u32) -> bool
     ensures { result ≡ slice_index_or setting.now.again.now at false }
 {
-    let at = at as usize;
-    if at < setting.again.len() {
-        setting.again[at]
-    } else {
-        false
-    }
+    entry_at(setting.again, at as usize, false)
 }
 
 /// The label that a `goto` may name.
 pub(crate) fn label_of(setting: &Setting, at: u32) -> Option<u32>
     ensures { result ≡ slice_index_or setting.now.labels.now at None }
 {
-    let at = at as usize;
-    if at < setting.labels.len() {
-        setting.labels[at]
-    } else {
-        None
-    }
+    entry_at(setting.labels, at as usize, None)
 }

@@ -8,7 +8,7 @@ use Rattle.cr_check_enclosing.specs.declared.context.Around.{Around}
 use Rattle.cr_check_enclosing.specs.Above.{above_of, AreAbove}
 use Rattle.cr_check_enclosing.specs.Around.{below, inside_if, outermost, AreAround}
 use Rattle.cr_scopes.specs.declared.names.Names.{Names}
-use Rattle.cr_scopes_bindings.specs.Entities.{AreOf}
+use Rattle.cr_rows.specs.Columns.{AreOf}
 use Rattle.cr_scopes_bindings.proofs.One.{one_bindings, one_of}
 use Rattle.cr_check_surroundings.specs.declared.surroundings.Surroundings.{Surroundings}
 use Rattle.cr_check_surroundings.specs.Named.{earlier_for, same_for, tag_of, visible_for}

@@ -3,7 +3,7 @@ use Rattle.std.specs.Prelude.{ℕ, List, Option, None, length}
 use Rattle.cr_syntax.specs.declared.unit.Unit as tree
 use Rattle.cr_scopes.specs.declared.names.Names.{Names}
 use Rattle.cr_scopes_bindings.specs.Bindings.{AreBindings}
-use Rattle.cr_scopes_bindings.specs.Entities.{AreOf}
+use Rattle.cr_rows.specs.Columns.{AreOf}
 use Rattle.cr_check_surroundings.specs.declared.bound.BoundNodes.{BoundNodes}
 use Rattle.cr_check_surroundings.specs.Links.{AreLinks}
 use Rattle.cr_check_surroundings.specs.Named.{tag_of}

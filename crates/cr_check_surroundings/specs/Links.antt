@@ -2,7 +2,7 @@
 use Rattle.std.specs.Prelude.{ℕ, List, Option, None}
 use Rattle.cr_syntax.specs.declared.node.Node.{Node}
 use Rattle.cr_scopes_bindings.specs.declared.bindings.Bindings.{Bindings}
-use Rattle.cr_scopes_bindings.specs.Entities.{AreOf}
+use Rattle.cr_rows.specs.Columns.{AreOf}
 use Rattle.cr_check_surroundings.specs.declared.links.Links.{Links}
 use Rattle.cr_check_surroundings.specs.Named.{earlier_for, same_for, visible_for}
 

@@ -5,7 +5,7 @@ use Rattle.cr_check_enclosing.specs.Above.{AreAbove}
 use Rattle.cr_check_enclosing.specs.Around.{AreAround}
 use Rattle.cr_scopes.specs.declared.names.Names.{Names}
 use Rattle.cr_scopes_bindings.specs.Bindings.{AreBindings}
-use Rattle.cr_scopes_bindings.specs.Entities.{AreOf}
+use Rattle.cr_rows.specs.Columns.{AreOf}
 use Rattle.cr_check_declarations.specs.declared.tree.Tree.{Tree}
 use Rattle.cr_check_surroundings.specs.declared.surroundings.Surroundings.{Surroundings}
 use Rattle.cr_check_surroundings.specs.Named.{earlier_for, same_for, tag_of, visible_for}

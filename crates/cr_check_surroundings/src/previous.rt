@@ -1,6 +1,6 @@
 // The part before each.
 ghost use Rattle.std.specs.Prelude.{◌≡◌, ◌<◌, ℕ, None, IfOk, length, slice_index_or};
-ghost use Rattle.cr_scopes_bindings.specs.Entities.{AreOf};
+ghost use Rattle.cr_rows.specs.Columns.{AreOf};
 ghost use Rattle.cr_check_surroundings.specs.Previous.{before_in, before_of};
 
 use cr_scopes_bindings::set_link;

@@ -2,7 +2,7 @@
 ghost use Rattle.std.specs.Prelude.{◌≡◌, slice_get};
 ghost use Rattle.cr_check_surroundings.specs.Raised.{initialises, is_first, raised, raised_by, raised_of};
 
-use cr_scopes_bindings::link_at;
+use cr_rows::entry_at;
 use cr_syntax::{Kind, Node};
 
 fn is_first(part: u32, parts: &[u32]) -> bool
@@ -39,7 +39,7 @@ fn raised_by(nodes: &[Node], above: u32, declarer: u32, reader: u32) -> u32
 fn raised(nodes: &[Node], above: &[Option<u32>], declarer: u32, reader: u32) -> u32
     ensures { result ≡ raised nodes.now above.now declarer reader }
 {
-    match link_at(above, declarer as usize) {
+    match entry_at(above, declarer as usize, None) {
         Some(node) => raised_by(nodes, node, declarer, reader),
         None => declarer,
     }

@@ -1,6 +1,6 @@
 // Tags by nodes.
 ghost use Rattle.std.specs.Prelude.{◌≡◌, None, IfOk, length};
-ghost use Rattle.cr_scopes_bindings.specs.Entities.{AreOf};
+ghost use Rattle.cr_rows.specs.Columns.{AreOf};
 ghost use Rattle.cr_check_surroundings.specs.Named.{tag_of as tag_of_node, tag_with};
 
 use cr_check_declarations::Tag;

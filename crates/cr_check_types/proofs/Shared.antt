@@ -14,35 +14,6 @@ use Rattle.cr_check_types.specs.Relations.{number_of}
 use Rattle.cr_check_types.specs.Shared.{IsDistinct, IsCanonical, HasNoRow, Gains, IsWith, has, gains, normal_by, normal_of, qualifiers_of, Key, key_by, key_of, same_key, IsOther, IsAbsent, AreShared}
 use Rattle.cr_check_types.proofs.Tables.{append_row, append_grows, append_table, shape_at, slice_of}
 
--- ---- shapes without qualifiers on arrays
-
-pub normal_type : (of : CType) (c v : Bool) (look : ℕ → Qualified) → type_of look (normal_by of c v) ≡ type_by of c v look
-normal_type (Pointer row) c v look = refl
-normal_type (Array row n) c v look = refl
-normal_type Void c v look = refl
-normal_type (Int kind) c v look = refl
-normal_type (Struct node) c v look = refl
-normal_type (Function node) c v look = refl
-normal_type Unknown c v look = refl
-
-pub normal_again : (of : CType) (c v : Bool) → normal_of (normal_by of c v) ≡ normal_by of c v
-normal_again (Pointer row) c v = refl
-normal_again (Array row n) c v = refl
-normal_again Void c v = refl
-normal_again (Int kind) c v = refl
-normal_again (Struct node) c v = refl
-normal_again (Function node) c v = refl
-normal_again Unknown c v = refl
-
-pub normal_room : (of : CType) (c v : Bool) → room_of (normal_by of c v) ≡ room_in of
-normal_room (Pointer row) c v = refl
-normal_room (Array row n) c v = refl
-normal_room Void c v = refl
-normal_room (Int kind) c v = refl
-normal_room (Struct node) c v = refl
-normal_room (Function node) c v = refl
-normal_room Unknown c v = refl
-
 -- ---- one type, one shape
 
 -- a pointer, an array, or what is a plain type by its words
@@ -188,7 +159,8 @@ no_row shapes rows s h normal absent room row low e =
 
 -- ---- keys
 
-abbrev kind_of : ℕ → IntKind
+-- the kind of a number, as `number_of` numbers them
+abbrev pub kind_of : ℕ → IntKind
 kind_of zero = BoolKind
 kind_of (suc zero) = Char
 kind_of (suc (suc zero)) = SChar
@@ -202,7 +174,7 @@ kind_of (suc (suc (suc (suc (suc (suc (suc (suc (suc zero))))))))) = ULong
 kind_of (suc (suc (suc (suc (suc (suc (suc (suc (suc (suc zero)))))))))) = LLong
 kind_of (suc (suc (suc (suc (suc (suc (suc (suc (suc (suc (suc more))))))))))) = ULLong
 
-kind_is : (kind : IntKind) → kind_of (number_of kind) ≡ kind
+pub kind_is : (kind : IntKind) → kind_of (number_of kind) ≡ kind
 kind_is BoolKind = refl
 kind_is Char = refl
 kind_is SChar = refl

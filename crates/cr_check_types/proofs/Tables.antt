@@ -3,7 +3,7 @@ use Rattle.std.proofs.Common.{◌≡◌, ℕ, zero, suc, ◌+◌, ◌<◌, ◌�
 use Rattle.std.proofs.Math.ListN.{get_or-append}
 use Rattle.std.proofs.Math.Seq.{get_or-append_seam, drop-cons}
 use Rattle.std.proofs.lemmas.Option.{slice_get_within, get_or_from_slice_get, slice_get-get_or}
-use Rattle.std.proofs.lemmas.List.{take-append-drop}
+use Rattle.std.proofs.lemmas.List.{get_or_past, take-append-drop}
 use Rattle.cr_syntax.specs.declared.ctype.CType.{CType}
 use Rattle.cr_syntax.specs.declared.ctype.CType.TheVariants.{Void, Int, Pointer, Array, Struct, Function, Unknown}
 use Rattle.cr_check_types.specs.declared.shape.Shape.{Shape}
@@ -26,15 +26,16 @@ made_keeps (s ∷ ss) made k lt =
     made_keeps ss (with_row made s) k (omega (arith, length-append made (type_of (λ row. slice_index_or made row unknown) s ∷ [])))
     ∙ get_or-append made (type_of (λ row. slice_index_or made row unknown) s ∷ []) unknown k lt
 
-made_length : (ss : List Shape) (made : List Qualified) → length (fold with_row made ss) ≡ length made + length ss
+pub made_length : (ss : List Shape) (made : List Qualified) → length (fold with_row made ss) ≡ length made + length ss
 made_length [] made = omega arith
 made_length (s ∷ ss) made =
     let e = made_length ss (with_row made s) in
     omega (arith, length-append made (type_of (λ row. slice_index_or made row unknown) s ∷ []))
 
-pub types_length : (ss : List Shape) → length (types_of ss) ≡ length ss
-unfolding types_of
-types_length ss = let e = made_length ss [] in omega (arith, e)
+-- a row that isn't there has no type
+pub beyond : (ss : List Shape) (row : ℕ) → length ss ≤ row → type_at ss row ≡ unknown
+unfolding type_at types_of
+beyond ss row h = let e = made_length ss [] in get_or_past (fold with_row [] ss) row unknown (omega arith)
 
 made_append : (ss ts : List Shape) (made : List Qualified) → fold with_row made (ss ++ ts) ≡ fold with_row (fold with_row made ss) ts
 made_append [] ts made = refl
@@ -104,10 +105,6 @@ append_table ss s table room row shape q = elim (slice_of ss s shape row q) [
   | inl older ↦ table row shape older
   | inr last ↦ rw (last.0, last.1) room
 ]
-
-pub known_row : (ss : List Shape) (row : ℕ) (s : Shape) → IsTable ss → row < length ss → s ≡ get_or ss row s → IsRow ss row (type_of (type_at ss) s)
-known_row ss row s table lt e =
-    let h = shape_is ss row s table (slice_get-get_or ss row s lt ∙ ap Some (sym e)) in record { within = lt; is = h.is }
 
 pub shape_at : (ss : List Shape) (row : ℕ) (d : Shape) → IsTable ss → row < length ss → IsShape ss row (get_or ss row d)
 shape_at ss row d table lt = shape_is ss row (get_or ss row d) table (slice_get-get_or ss row d lt)

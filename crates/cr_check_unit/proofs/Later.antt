@@ -80,13 +80,6 @@ named_later old new later u t c said own derived row i n is grows more h within 
     ∙ ap (λ d. named_by n.kind u said own d (before_at old c) i n) (sym (all.keeps derived within))
     ∙ ap (λ b. named_by n.kind u said own (type_at later derived) b i n) (before_later old later t c is all h)
 
--- rows whose types are a rule of the columns
-pub rows_later : (old new later : List Shape) (t : Typing) (c : Columns) (f : Before → List Qualified) (rows : List ℕ)
-    → ((shapes : List Shape) → before_at shapes c ≡ before_in shapes t) → Grows old new → Grows new later → AreWithin old t
-    → AreRows new rows → map (type_at new) rows ≡ f (before_at old c) → map (type_at later) rows ≡ f (before_in later t)
-rows_later old new later t c f rows is grows more h within made =
-    types_kept new later rows more within ∙ made ∙ ap f (before_later old later t c is (grows_on old new later grows more) h)
-
 -- what is a rule of the columns and of the types of rows
 pub whole_later : {A : Type 0} → (now later : List Shape) (t : Typing) (c : Columns) (f : Before → List Qualified → A) (x : A) (rows : List ℕ)
     → ((shapes : List Shape) → before_at shapes c ≡ before_in shapes t) → Grows now later → AreWithin now t → AreRows now rows

@@ -15,7 +15,7 @@ use Rattle.cr_check_expressions.specs.Breaks.{faults_if, IsAmong, IsFirst}
 use Rattle.cr_check_expressions.proofs.Firsts.{same_first, one_first as one_of_all}
 use Rattle.cr_check_statements.specs.Setting.{result_row}
 use Rattle.cr_check_statements.specs.Statements.{IsBroken as IsStatementBroken}
-use Rattle.cr_check_labels.specs.Columns.{AreOf}
+use Rattle.cr_rows.specs.Columns.{AreOf}
 use Rattle.cr_check_labels.specs.Again.{is_again}
 use Rattle.cr_check_labels.specs.Gotos.{goto_at}
 use Rattle.cr_check_declarations.specs.declared.tree.Tree.{Tree}

@@ -18,7 +18,7 @@ use cr_check_labels::{Labelled, again, labels};
 use cr_check_statements::{Setting, check_statements};
 use cr_check_types::Table;
 use cr_holding::holding;
-use cr_rows::Row;
+use cr_rows::{Row, entry_at};
 use cr_syntax::{Kind, Node};
 use std::alloc::{AllocError, Global};
 
@@ -135,15 +135,9 @@ fn named_row(named: &[u32], node: Option<u32>) -> u32
     ensures { result ≡ named_row named.now node }
 {
     match node {
-        Some(node) => number_at(named, node as usize),
+        Some(node) => entry_at(named, node as usize, 0),
         None => 0,
     }
-}
-
-fn number_at(numbers: &[u32], at: usize) -> u32
-    ensures { result ≡ slice_index_or numbers.now at 0 }
-{
-    if at < numbers.len() { numbers[at] } else { 0 }
 }
 
 #[tactic(auto, using(crate::proofs::Unit::results_within))]

@@ -40,9 +40,6 @@ total-upto len [] = omega (arith, upto-none len)
 total-upto len (l ∷ ls) =
     omega (arith, upto-add len (λ p. placed p l) (λ p. total (placed p) ls), under-upto len l, total-upto len ls)
 
-pub once : (len next least : ℕ) (sum : Sum) → IsSound len next least sum → (p : ℕ) → sum (placed p) ≤ 1
-once len next least sum s p = omega (arith, s.each_claimed_number_stands_once p)
-
 pub few_below : (len next : ℕ) (lists : List Row) → ((p : ℕ) → total (placed p) lists ≡ below p next) → total (under len) lists ≤ len
 few_below len next lists each =
     omega (arith, total-upto len lists, upto-small len (λ p. total (placed p) lists) (λ p. omega (arith, each p)))

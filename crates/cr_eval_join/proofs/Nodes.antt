@@ -165,9 +165,6 @@ joins p node op done world memory all (Err trap) result free same answers h =
     let P : Result Part Trap → Type 0 = λ r. Joins (expression p node op done world) (record world { memory = memory }) node r in
     subst P (sym h) (failing p node op done world (record world { memory = memory }) trap free answers)
 
-pub wanting : (act : Act) (world : World) (node : ℕ) (trap : Trap) → trap ≡ NoMemory → Joins act world node (Err trap)
-wanting act world node trap e = let P : Trap → Type 0 = λ t. Joins act world node (Err t) in subst P (sym e) (record { says = tt })
-
 -- ---- by the number of operands
 
 pub none_joins : (p : Program) (node : ℕ) (op : Op) (world : World) (memory : Memory) (did : Result Did Trap) (result : Result Part Trap)

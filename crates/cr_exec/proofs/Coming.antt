@@ -79,57 +79,5 @@ watched_by now p root before after outcome result r b h e come =
     let R : Run → Type 0 = λ o. IsWatched now p o in
     subst R (sym e) (comes_so now p after outcome (subst Q b (subst P r h)) (ap has_come (sym e) ∙ come))
 
-pub meant_by : (now : List Mark → Type 0) (p : Program) (root : ℕ) (before after : World) (outcome : Outcome Held) (result : Run) → root ≡ root_of p → before ≡ start_of p.limits
-    → ComesTo shows now p root before outcome after → result ≡ run_from p.limits after outcome → has_come result ≡ true → Means p result
-meant_by now p root before after outcome result r b h e come = means_so now p result (watched_by now p root before after outcome result r b h e come)
-
 pub only_this : (p : Program) (result : Run) → (has_come result ≡ true → Means p result) → (outcome : Run) → Means p outcome → has_come result ≡ true → outcome ≡ result
 only_this p result f outcome m e = one_meaning p outcome result m (f e)
-
--- ---- looks
-
-looked_so : (limits : Limits) (before after : World) (looks now : ℕ) (outcome : Outcome Held) → before.steps ≡ limits.steps → after.steps ≤ before.steps
-    → HasLooked looks now (before.steps - after.steps) (given_up outcome) → Looked (run_from limits after outcome) limits.steps looks now
-looked_so limits before after looks now (Came (held.Returned (value.Number kind v))) s f h = let P : ℕ → Type 0 = λ n. HasLooked looks now (n - after.steps) 0 in subst P s h
-looked_so limits before after looks now (Came (held.Returned value.Nothing)) s f h = tt
-looked_so limits before after looks now (Came (held.Returned (value.Pointer at))) s f h = tt
-looked_so limits before after looks now (Came (held.Returned (value.Place at))) s f h = tt
-looked_so limits before after looks now (Came (held.Returned (value.Cells cells))) s f h = tt
-looked_so limits before after looks now (Came (held.Part given)) s f h = tt
-looked_so limits before after looks now (Came held.Next) s f h = tt
-looked_so limits before after looks now (Came held.Broke) s f h = tt
-looked_so limits before after looks now (Came held.Continued) s f h = tt
-looked_so limits before after looks now (Came (held.Jumped label)) s f h = tt
-looked_so limits before after looks now (Halted (halted.Undefined number node)) s f h = (before.steps - after.steps, (omega (arith, s, f), h))
-looked_so limits before after looks now (Halted (halted.Left number node)) s f h = (before.steps - after.steps, (omega (arith, s, f), h))
-looked_so limits before after looks now (Halted (halted.Exited status)) s f h = let P : ℕ → Type 0 = λ n. HasLooked looks now (n - after.steps) 0 in subst P s h
-looked_so limits before after looks now (Halted halted.NoMemory) s f h = tt
-looked_so limits before after looks now Stopped s f h = (before.steps - after.steps, (omega (arith, s, f), h))
-
-pub looked_by : (limits : Limits) (before after : World) (looks now : ℕ) (outcome : Outcome Held) (result : Run) → before ≡ start_of limits → after.steps ≤ before.steps
-    → HasLooked looks now (before.steps - after.steps) (given_up outcome) → result ≡ run_from limits after outcome → Looked result limits.steps looks now
-looked_by limits before after looks now outcome result b f h e =
-    let P : Run → Type 0 = λ r. Looked r limits.steps looks now in
-    subst P (sym e) (looked_so limits before after looks now outcome (ap (λ (w : World). w.steps) b) f h)
-
--- ---- a stop
-
-stopped_so : (limits : Limits) (after : World) (outcome : Outcome Held) → run_from limits after outcome ≡ run.Stopped → outcome ≡ Stopped
-stopped_so limits after (Came (held.Returned (value.Number kind v))) e = absurd (cc e)
-stopped_so limits after (Came (held.Returned value.Nothing)) e = absurd (cc e)
-stopped_so limits after (Came (held.Returned (value.Pointer at))) e = absurd (cc e)
-stopped_so limits after (Came (held.Returned (value.Place at))) e = absurd (cc e)
-stopped_so limits after (Came (held.Returned (value.Cells cells))) e = absurd (cc e)
-stopped_so limits after (Came (held.Part given)) e = absurd (cc e)
-stopped_so limits after (Came held.Next) e = absurd (cc e)
-stopped_so limits after (Came held.Broke) e = absurd (cc e)
-stopped_so limits after (Came held.Continued) e = absurd (cc e)
-stopped_so limits after (Came (held.Jumped label)) e = absurd (cc e)
-stopped_so limits after (Halted (halted.Undefined number node)) e = absurd (cc e)
-stopped_so limits after (Halted (halted.Left number node)) e = absurd (cc e)
-stopped_so limits after (Halted (halted.Exited status)) e = absurd (cc e)
-stopped_so limits after (Halted halted.NoMemory) e = absurd (cc e)
-stopped_so limits after Stopped e = refl
-
-pub stopped_by : (limits : Limits) (after : World) (outcome : Outcome Held) (result : Run) → result ≡ run_from limits after outcome → result ≡ run.Stopped → outcome ≡ Stopped
-stopped_by limits after outcome result e s = stopped_so limits after outcome (sym e ∙ s)

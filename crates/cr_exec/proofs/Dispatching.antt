@@ -21,20 +21,9 @@ use Rattle.cr_exec_turns.specs.Held.{shows}
 use Rattle.cr_exec.specs.Runs.{IsNoCall}
 
 module _ (p : Program) (node : ℕ) (op : Op) (answers : List Answer) (before after : World) where
-  pub before_here : (r : Result (Unit {0}) Halted) → slice_get p.ops node ≡ Some op → Worked (before_by p node op.work answers before) r after → Worked (before_at p node answers before) r after
-  before_here r e h = let P : Option Op → Type 0 = λ o. Worked (before_for p node answers o before) r after in subst P (sym e) h
-
-  pub join_here : (r : Result (Unit {0}) Halted) (left : List Held) → slice_get p.ops node ≡ Some op → Leaves shows (join_by p node op op.work answers before) r left after
-      → Leaves shows (join_at p node answers before) r left after
-  join_here r left e h = let P : Option Op → Type 0 = λ o. Leaves shows (join_for p node answers o before) r left after in subst P (sym e) h
-
   pub expression_here : (r : Result (Unit {0}) Halted) (left : List Held) → is_expression op.work ≡ true → IsNoCall op.work
       → Leaves shows (expression p node op answers before) r left after → Leaves shows (join_by p node op op.work answers before) r left after
   expression_here r left e other h = let P : Act → Type 0 = λ act. Leaves shows act r left after in subst P (sym (expression_joins p node op op.work answers before e other)) h
-
--- an answer that is put on the stack where no others are
-pub put_leaves : (act : Act) (w : World) (given : Held) (new : List Held) → new ≡ given ∷ [] → Joined shows act (Ok given) w → Leaves shows act (Ok tt) new w
-put_leaves act w given new e h = record { leaves = record { held = given; only = e; answering = h.joins } }
 
 pub nothing_done : (foot : Foot) → sets foot ≡ no_events → IsFootOf foot []
 nothing_done foot e = record { same = e ∙ sym nothing_has_no_sets }

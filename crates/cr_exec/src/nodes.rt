@@ -2,7 +2,6 @@
 ghost use Rattle.std.specs.Prelude.{◌≡◌, List};
 ghost use Rattle.std.specs.List.{AllZip};
 ghost use Rattle.cr_eval.specs.Table.{program_of};
-ghost use Rattle.cr_eval_join.specs.Turns.{is_expression};
 ghost use Rattle.cr_meaning.specs.Nodes.{Act};
 ghost use Rattle.cr_meaning.specs.World.{Answer, World as SpecWorld};
 ghost use Rattle.cr_meaning.specs.Meaning.{before_by, join_by};
@@ -19,38 +18,12 @@ use cr_exec_expressions::expression;
 use cr_exec_slices::{Halted, Nodes, Way};
 use cr_exec_stack::Stack;
 use cr_exec_statements::{before, statement};
-use cr_exec_turns::{Held, next};
+use cr_exec_turns::{Held, is_expression, next};
 use cr_exec_world::{World, reach};
 use cr_footprint::Foot;
 use cr_ints::IntKind;
 use cr_meaning::{Op, Value, Work};
 use std::alloc::Global;
-
-/// Whether the node is an expression, no statement, no declaration and not the whole program.
-#[inline]
-fn is_expression(work: &Work) -> bool
-    ensures { result ≡ is_expression work.now }
-{
-    match work {
-        Work::Expression
-        | Work::If
-        | Work::While
-        | Work::Do
-        | Work::For(_, _, _, _, _)
-        | Work::Switch(_, _, _, _, _, _)
-        | Work::Block(_, _)
-        | Work::Labelled
-        | Work::Break
-        | Work::Continue
-        | Work::Goto(_)
-        | Work::Return(_)
-        | Work::Declaration
-        | Work::Declare(_)
-        | Work::Initialise(_, _)
-        | Work::Program(_, _, _, _) => false,
-        _ => true,
-    }
-}
 
 fn before_op(
     alloc: Global,

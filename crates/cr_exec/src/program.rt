@@ -7,7 +7,7 @@ ghost use Rattle.cr_exec_world.specs.Worlds.{world_of};
 ghost use Rattle.cr_exec.specs.Runs.{has_come, run_from, IsWatched, Looked};
 
 use crate::running::Running;
-use crate::watch::{Watch, Watched};
+use crate::watch::{Unseen, Watch, Watched};
 use cr_cursor::Stop;
 use cr_eval::Table;
 use cr_exec_library::status_of;
@@ -79,19 +79,7 @@ pub fn run<S: Stop>(alloc: Global, table: &Table, stop: &mut S) -> Run
     ensures held { S.held stop.new ≡ S.held stop.old }
     ensures looked { Looked result table.now.limits.steps (S.looks stop.old) (S.looks stop.new) }
 {
-    let Some(root) = root_of(table) else {
-        return Run::NoMemory;
-    };
-    let Ok(world) = start(alloc, table) else {
-        return Run::NoMemory;
-    };
-    let mut running = Running {
-        alloc,
-        table,
-        world,
-    };
-    let outcome = run_nodes(alloc, &mut running, root, stop);
-    run_from(table.limits, running.world, outcome)
+    run_seen(alloc, table, stop, Unseen).0
 }
 
 /// Runs a program as `run` does, while a watch, which knows of none yet, sees where its nodes begin and end. It comes back with the

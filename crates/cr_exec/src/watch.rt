@@ -32,6 +32,24 @@ pub trait Watch {
             → OnOk result (knows self.new p (marks ++ left node events ∷ [])) };
 }
 
+/// Sees nothing.
+#[derive(Drop)]
+pub(crate) struct Unseen;
+
+impl Watch for Unseen {
+    ghost knows = { λ unseen p marks. Unit {0} };
+
+    #[inline]
+    fn begin(&mut self, _node: u32) -> Result<(), NoMemory> {
+        Ok(())
+    }
+
+    #[inline]
+    fn end(&mut self, _node: u32, _foot: &Foot) -> Result<(), NoMemory> {
+        Ok(())
+    }
+}
+
 /// A program that runs, and what sees its nodes.
 #[derive(Drop)]
 pub(crate) struct Watched<'a, W: Watch> {
@@ -40,6 +58,7 @@ pub(crate) struct Watched<'a, W: Watch> {
 }
 
 /// The watch sees a node's end with the footprint of its answer.
+#[inline]
 fn end<W: Watch>(alloc: Global, watch: &mut W, node: u32, held: &Held) -> Result<(), NoMemory>
     ensures { (p : SpecProgram) (marks : List Mark) (answer : Answer) → W.knows watch.old p marks → shows held.now answer
         → OnOk result (W.knows watch.new p (marks ++ left node (events_of answer) ∷ [])) }
@@ -64,10 +83,12 @@ impl<'a, W: Watch> Nodes for Watched<'a, W> {
 
     ghost has_seen = { λ watched marks. W.knows watched.watch (program_of watched.running.table.now) marks };
 
+    #[inline]
     fn steps(&self) -> u64 {
         self.running.steps()
     }
 
+    #[inline]
     fn reach(&mut self, node: u32) -> Result<(), Halted> {
         let Ok(()) = self.watch.begin(node) else {
             return Err(Halted::NoMemory);
@@ -75,6 +96,7 @@ impl<'a, W: Watch> Nodes for Watched<'a, W> {
         self.running.reach(node)
     }
 
+    #[inline]
     fn next(&self, node: u32, done: &[Held]) -> Way {
         self.running.next(node, done)
     }
@@ -83,6 +105,7 @@ impl<'a, W: Watch> Nodes for Watched<'a, W> {
         self.running.before(node, done)
     }
 
+    #[inline]
     fn join(&mut self, stack: &mut Stack<Held>) -> Result<(), Halted> {
         let node = stack.node();
         self.running.join(stack)?;

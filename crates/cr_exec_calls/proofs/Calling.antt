@@ -17,26 +17,10 @@ use Rattle.cr_exec_slices.specs.declared.nodes.Halted.{Halted}
 use Rattle.cr_exec_turns.specs.declared.held.Held.{Held}
 use Rattle.cr_exec_turns.specs.declared.held.Held.TheVariants as held
 use Rattle.cr_exec_turns.specs.Held.{shows}
+use Rattle.cr_exec_turns.proofs.Valued.{values_shown}
 use Rattle.cr_exec_world.specs.Worlds.{halt_of}
 use Rattle.cr_exec_calls.specs.Arguments.{value_in, values_in}
 use Rattle.cr_exec_calls.specs.Clashes.{Clashes}
-
--- ---- the values of answers
-
-value_shown : (h : Held) (a : Answer) → shows h a → value_of a ≡ value_in h
-value_shown (held.Part given) (part v events) s = sym s.0
-value_shown (held.Part given) other s = absurd s
-value_shown held.Next a s = ap value_of s
-value_shown held.Broke a s = ap value_of s
-value_shown held.Continued a s = ap value_of s
-value_shown (held.Jumped label) a s = ap value_of s
-value_shown (held.Returned v) a s = ap value_of s
-
-pub values_shown : (done : List Held) (answers : List Answer) → AllZip shows done answers → values answers ≡ values_in done
-values_shown [] [] z = refl
-values_shown [] (a ∷ answers) z = absurd z
-values_shown (h ∷ done) [] z = absurd z
-values_shown (h ∷ done) (a ∷ answers) z = ap₂ (λ (v : Value). λ (vs : List Value). v ∷ vs) (value_shown h a z.0) (values_shown done answers z.1)
 
 -- ---- work that no conflict stops, or that one stops
 

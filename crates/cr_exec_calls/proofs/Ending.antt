@@ -26,7 +26,8 @@ use Rattle.cr_exec_calls.specs.Clashes.{argument}
 use Rattle.cr_exec_calls.specs.Taken.{Takes}
 use Rattle.cr_exec_calls.specs.Ends.{Gives, held_of, call_library, EndsBy, EndsWith}
 use Rattle.cr_exec_calls.specs.declared.taken.Taken.{Taken}
-use Rattle.cr_exec_calls.proofs.Calling.{values_shown, unless_none, unless_some}
+use Rattle.cr_exec_calls.proofs.Calling.{unless_none, unless_some}
+use Rattle.cr_exec_turns.proofs.Valued.{values_shown}
 
 -- ---- functions of the program: the last answer is the body's
 

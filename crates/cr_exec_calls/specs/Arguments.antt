@@ -1,19 +1,12 @@
 -- The values of a call's arguments, as their answers are kept.
-use Rattle.std.specs.Prelude.{Bool, true, Result, Ok, Err, List, map}
+use Rattle.std.specs.Prelude.{Bool, true, Result, Ok, Err, List}
 use Rattle.std.specs.Global.{Vec}
 use Rattle.cr_memory.specs.declared.value.Trap.{Trap}
 use Rattle.cr_meaning.specs.Work.{is_nothing}
 use Rattle.cr_meaning.specs.declared.value.Value.{Value}
-use Rattle.cr_meaning.specs.declared.value.Value.TheVariants.{Nothing}
+pub use Rattle.cr_exec_turns.specs.Held.{value_in, values_in}
 use Rattle.cr_exec_turns.specs.declared.held.Held.{Held}
 use Rattle.cr_exec_turns.specs.declared.held.Held.TheVariants as held
-
-abbrev pub value_in : Held → Value
-value_in (held.Part given) = given.value
-value_in other = Nothing
-
-abbrev pub values_in : List Held → List Value
-values_in done = map value_in done
 
 -- an argument without a value
 abbrev pub is_unused : Held → Bool

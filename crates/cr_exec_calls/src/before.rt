@@ -2,9 +2,8 @@
 ghost use Rattle.std.specs.Prelude.{◌≡◌, List};
 ghost use Rattle.std.specs.List.{AllZip};
 ghost use Rattle.cr_eval.specs.Table.{program_of};
-ghost use Rattle.cr_meaning.specs.Language.{went};
-ghost use Rattle.cr_meaning.specs.World.{Answer, next, enter_object};
-ghost use Rattle.cr_meaning.specs.Nodes.{entering, with_argument, enter_parameters, deeper, begun, called};
+ghost use Rattle.cr_meaning.specs.World.{Answer, enter_object};
+ghost use Rattle.cr_meaning.specs.Nodes.{entering, with_argument, enter_parameters, begun, called};
 ghost use Rattle.cr_meaning.specs.Meaning.{call_before};
 ghost use Rattle.cr_meaning.specs.declared.op.Callee.{Callee as SpecCallee};
 ghost use Rattle.cr_meaning.specs.declared.op.Work.TheVariants.{Call};
@@ -18,7 +17,7 @@ use cr_eval::Table;
 use cr_eval_join::UNSEQUENCED;
 use cr_exec_slices::Halted;
 use cr_exec_turns::Held;
-use cr_exec_world::{World, enter, mark, spelled_for};
+use cr_exec_world::{World, deeper, enter, spelled_for};
 use cr_meaning::{Callee, Parameter, Value};
 use cr_memory::{Cell, Trap};
 use std::alloc::Global;
@@ -83,18 +82,6 @@ fn enter_parameters(
         }
     }
     Ok(())
-}
-
-/// One call more runs.
-fn deeper(world: &mut World) -> Result<(), Halted>
-    ensures work { Worked (went next (deeper (world_of world.old))) result (world_of world.new) }
-    ensures steps { world.new.steps ≡ world.old.steps }
-{
-    let Some(depth) = world.depth.checked_add(1) else {
-        return Err(Halted::NoMemory);
-    };
-    world.depth = depth;
-    mark(world)
 }
 
 /// A call begins with these values of its parameters: N2, N3.

@@ -184,12 +184,6 @@ outside_by_cases format (Some others) h leaves = absurd (pieces_stay_in_profile 
 pub is_outside : (format : List ℕ) → LeavesProfile format → read_of (pieces_of format) ≡ Err (Left 7)
 is_outside format leaves = outside_by_cases format (pieces_of format) (formats_are_read format) leaves
 
--- a format's pieces, and what they print
-pub formatted_by : (p : Program) (world : World) (arguments : List (Bool × Value)) (o : Option (List Piece))
-    → formatted p world arguments o ≡ then_by (read_of o) (λ pieces. formatted p world arguments (Some pieces))
-formatted_by p world arguments None = refl
-formatted_by p world arguments (Some pieces) = refl
-
 pub format_ends : (format : List ℕ) (end : FormatEnd) → (end ≡ Outside → LeavesProfile format) → Answers (read_of (pieces_of format)) (Err (trap_of end))
 format_ends format Outside h = record { says = is_outside format (h refl) }
 format_ends format ends.NoMemory h = record { says = tt }

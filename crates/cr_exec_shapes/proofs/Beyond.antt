@@ -7,7 +7,7 @@ use Rattle.cr_typed.specs.declared.typed.Typed.{Typed}
 use Rattle.cr_typed.specs.Typed.{IsTyped}
 use Rattle.cr_meaning_operations.specs.Shapes.{shape_of}
 use Rattle.cr_meaning_operations.specs.Operations.{kind_if, kind_at, object_shape, literal_by}
-use Rattle.cr_exec_shapes.proofs.Rows.{beyond}
+use Rattle.cr_check_types.proofs.Tables.{beyond}
 
 none_past : {X : Type 0} (xs : List X) (k : ℕ) → length xs ≤ k → slice_get xs k ≡ None
 none_past [] k h = refl

@@ -9,36 +9,8 @@ use Rattle.cr_check_types.specs.declared.shape.Shape.{Shape}
 use Rattle.cr_check_types.specs.Types.{Qualified, plain, pointer, array, type_at}
 use Rattle.cr_check_types.specs.Relations.{number_of, same, are_same, sizes_agree, are_compatible}
 use Rattle.cr_check_types.specs.Shared.{IsCanonical}
+use Rattle.cr_check_types.proofs.Shared.{kind_is, kind_of}
 use Rattle.cr_exec_shapes.specs.Open.{is_open}
-
--- the kind of a number, as `number_of` numbers them
-abbrev kind_of : ℕ → IntKind
-kind_of zero = BoolKind
-kind_of (suc zero) = Char
-kind_of (suc (suc zero)) = SChar
-kind_of (suc (suc (suc zero))) = UChar
-kind_of (suc (suc (suc (suc zero)))) = Short
-kind_of (suc (suc (suc (suc (suc zero))))) = UShort
-kind_of (suc (suc (suc (suc (suc (suc zero)))))) = IntKind_Int
-kind_of (suc (suc (suc (suc (suc (suc (suc zero))))))) = UInt
-kind_of (suc (suc (suc (suc (suc (suc (suc (suc zero)))))))) = Long
-kind_of (suc (suc (suc (suc (suc (suc (suc (suc (suc zero))))))))) = ULong
-kind_of (suc (suc (suc (suc (suc (suc (suc (suc (suc (suc zero)))))))))) = LLong
-kind_of (suc (suc (suc (suc (suc (suc (suc (suc (suc (suc (suc more))))))))))) = ULLong
-
-kind_is : (kind : IntKind) → kind_of (number_of kind) ≡ kind
-kind_is BoolKind = refl
-kind_is Char = refl
-kind_is SChar = refl
-kind_is UChar = refl
-kind_is Short = refl
-kind_is UShort = refl
-kind_is IntKind_Int = refl
-kind_is UInt = refl
-kind_is Long = refl
-kind_is ULong = refl
-kind_is LLong = refl
-kind_is ULLong = refl
 
 same_kind : (kind other : IntKind) → number_of kind ≡ number_of other → kind ≡ other
 same_kind kind other e = sym (kind_is kind) ∙ ap kind_of e ∙ kind_is other

@@ -9,20 +9,10 @@ use Rattle.std.proofs.lemmas.List.Sums.{sum_by_more_le}
 use Rattle.cr_check_types.specs.declared.shape.Shape.{Shape}
 use Rattle.cr_check_types.specs.Types.{Qualified, unknown, type_of, with_row, types_of, type_at}
 use Rattle.cr_check_types.specs.Relations.{are_compatible, IsLeastRow}
+use Rattle.cr_check_types.proofs.Tables.{beyond, made_length}
 use Rattle.cr_typed.specs.declared.typed.Typed.{Typed}
 use Rattle.cr_typed.specs.Typed.{IsTyped, row_cells, MOST_CELLS}
 use Rattle.cr_meaning_operations.specs.Shapes.{first_row}
-
-made_length : (ss : List Shape) (made : List Qualified) → length (fold with_row made ss) ≡ length made + length ss
-made_length [] made = omega arith
-made_length (s ∷ ss) made =
-    let e = made_length ss (with_row made s) in
-    omega (arith, length-append made (type_of (λ row. slice_index_or made row unknown) s ∷ []))
-
--- a row that isn't there has no type
-pub beyond : (ss : List Shape) (row : ℕ) → length ss ≤ row → type_at ss row ≡ unknown
-unfolding type_at types_of
-beyond ss row h = let e = made_length ss [] in get_or_past (fold with_row [] ss) row unknown (omega arith)
 
 first_by : (xs : List Qualified) (type : Qualified) (at k : ℕ) → k < length xs → are_compatible (slice_index_or xs k unknown) type ≡ true
     → ((j : ℕ) → j < k → are_compatible (slice_index_or xs j unknown) type ≡ false) → first_row xs type at ≡ at + k

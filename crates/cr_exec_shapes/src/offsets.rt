@@ -8,7 +8,7 @@ use cr_typed::Typed;
 use std::alloc::{AllocError, Global};
 
 /// The scalars in a row's type.
-#[tactic(auto, using(crate::proofs::Rows::beyond))]
+#[tactic(auto, using(cr_check_types::proofs::Tables::beyond))]
 pub(crate) fn cells_in(typed: &Typed, row: u32) -> u32
     requires { IsTyped typed.now }
     ensures { result ≡ row_cells typed.now row }

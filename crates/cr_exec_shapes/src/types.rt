@@ -9,7 +9,7 @@ use crate::offsets::{before_member, cells_in, offsets};
 use cr_check_types::Shape;
 use cr_meaning::{Access, Form};
 use cr_memory::Scalar;
-use cr_rows::Row;
+use cr_rows::{Row, entry_at};
 use cr_syntax::CType;
 use cr_typed::Typed;
 use std::alloc::{AllocError, Global};
@@ -71,18 +71,18 @@ impl<'a> Types<'a> {
     pub fn row(&self, node: u32) -> u32
         ensures { result ≡ slice_index_or self.now.types node 0 }
     {
-        number_at(self.typed.types.as_slice(), node)
+        entry_at(self.typed.types.as_slice(), node as usize, 0)
     }
 
     /// The row of the type that a declared name has, a cast names, or the function of a `return` gives.
     pub fn named_row(&self, node: u32) -> u32
         ensures { result ≡ slice_index_or self.now.named node 0 }
     {
-        number_at(self.typed.named.as_slice(), node)
+        entry_at(self.typed.named.as_slice(), node as usize, 0)
     }
 
     /// The shape of a row.
-    #[tactic(auto, using(crate::proofs::Rows::beyond))]
+    #[tactic(auto, using(cr_check_types::proofs::Tables::beyond))]
     pub fn shape(&self, row: u32) -> Shape
         ensures is { type_at self.now.shapes row ≡ type_of (type_at self.now.shapes) result }
         ensures below { room_of result ≤ row }
@@ -112,7 +112,7 @@ impl<'a> Types<'a> {
     pub fn number(&self, row: u32) -> u32
         ensures { result ≡ number_of self.now (type_at self.now.shapes row) }
     {
-        number_at(&self.numbers, row)
+        entry_at(&self.numbers, row as usize, 0)
     }
 
     /// What a row's type is to the run.
@@ -131,7 +131,7 @@ impl<'a> Types<'a> {
     pub fn access(&self, node: u32) -> Access
         ensures { result ≡ access_of self.now node }
     {
-        if is_at(self.typed.valued.as_slice(), node) {
+        if entry_at(self.typed.valued.as_slice(), node as usize, false) {
             self.access_in(self.row(node))
         } else {
             Access::Unused
@@ -239,20 +239,6 @@ fn structure_of(shape: Shape) -> u32
         CType::Struct(node) => node,
         _ => 0,
     }
-}
-
-fn number_at(numbers: &[u32], at: u32) -> u32
-    ensures { result ≡ slice_index_or numbers.now at 0 }
-{
-    let at = at as usize;
-    if at < numbers.len() { numbers[at] } else { 0 }
-}
-
-fn is_at(marks: &[bool], at: u32) -> bool
-    ensures { result ≡ slice_index_or marks.now at false }
-{
-    let at = at as usize;
-    if at < marks.len() { marks[at] } else { false }
 }
 
 fn row_at<'a>(rows: &'a [Row<u32>], at: u32) -> &'a [u32]

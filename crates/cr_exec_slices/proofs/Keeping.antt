@@ -24,12 +24,6 @@ use Rattle.cr_exec_slices.proofs.Ways.{operand_leads, enter_leads, enter_halts, 
 
 -- ---- lists
 
-pub all_zip_append : {A B : Type 0} (R : A → B → Type 0) (xs more : List A) (ys others : List B) → AllZip R xs ys → AllZip R more others → AllZip R (xs ++ more) (ys ++ others)
-all_zip_append R [] more [] others h m = m
-all_zip_append R [] more (y ∷ ys) others h m = absurd h
-all_zip_append R (x ∷ xs) more [] others h m = absurd h
-all_zip_append R (x ∷ xs) more (y ∷ ys) others h m = (h.0, all_zip_append R xs more ys others h.1 m)
-
 pub all_zip_take : {A B : Type 0} (R : A → B → Type 0) (count : ℕ) (xs : List A) (ys : List B) → AllZip R xs ys → AllZip R (take count xs) (take count ys)
 all_zip_take R zero xs ys h = tt
 all_zip_take R (suc count) [] [] h = tt
@@ -149,9 +143,6 @@ module _ {T : Type 0} (shows : T → Answer → Type 0) where
   pub handed_on : (now : List Mark → Type 0) (p : Program) (start : State) (new : Waiting T) (t : World) (r : Result Turned Halted) (x : Halted) → IsErrAnd r (λ y. y ≡ x)
       → Turns shows now p start (Err x) new t → Turns shows now p start r new t
   handed_on now p start new t r x h turns = exit (λ r. Turns shows now p start r new t) r x h turns
-
-  pub no_memory : (now : List Mark → Type 0) (p : Program) (start : State) (new : Waiting T) (t : World) → Turns shows now p start (Err NoMemory) new t
-  no_memory now p start new t = record { turns = tt }
 
   pub operand_goes : (now : List Mark → Type 0) (marks : List Mark) (p : Program) (held : Waiting T) (waiting : Waiting Answer) (s : World) (part : ℕ)
       → ShowsWaiting shows held waiting → way_at p waiting.top.node waiting.top.done ≡ Operand part → now marks

@@ -9,27 +9,8 @@ pub still_ahead : (until : Option ℕ) (steps after : ℕ) → IfSome until (λ 
 still_ahead None steps after h d few = tt
 still_ahead (Some u) steps after h d few = let apart : u ≢ steps = λ e. d (ap (λ n. Some n) e) in omega (arith, h, apart, few)
 
--- the last slice is no longer than another one
-pub short_enough : (until : Option ℕ) (steps after : ℕ) → MatchOption until (steps < 4096) (λ u. u + 4096 ≡ steps) → IfSome until (λ u. u ≤ after) → steps ≤ after + 4096
-short_enough None steps after e h = omega (arith, e)
-short_enough (Some u) steps after e h = omega (arith, e, h)
-
-pub looked_and_stopped : (before looks after start steps : ℕ) → IsBetweenSlices before looks (start - steps) → after ≡ after_look looks
-    → HasLooked before after (start - steps) 4096
-looked_and_stopped before looks after start steps h e = record {
-  times = h.times + 1;
-  counted = e ∙ h.counted;
-  most = omega (arith, h.whole);
-  least = omega (arith, h.whole);
 }
 
-pub looked_and_ended : (before looks after start steps left : ℕ) → IsBetweenSlices before looks (start - steps) → after ≡ after_look looks
-    → steps ≤ start → left ≤ steps → steps ≤ left + 4096 → HasLooked before after (start - left) 0
-looked_and_ended before looks after start steps left h e one two three = record {
-  times = h.times + 1;
-  counted = e ∙ h.counted;
-  most = omega (arith, h.whole, one, two, three);
-  least = omega (arith, h.whole, one, two, three);
 }
 
 next_look : (before looks after times : ℕ) → after_look looks ≡ min (before + (times + 1)) (2 ^ 64 - 1) → after ≡ after_look looks

@@ -24,7 +24,3 @@ pub ended_seen : (now : List Mark → Type 0) (p : Program) (node : ℕ) (start 
 ended_seen now p node start halt h =
     let i = notes_are_marks p (operands node []) (start, []) (ended (halt, h.marks)) h.run in
     (i.forest, (i.run, subst now i.same h.is_now))
-
--- and so it is a run of the meaning
-pub came_runs : (now : List Mark → Type 0) (p : Program) (node : ℕ) (start world : World) (answer : Answer) → MarkedRun now p node start (λ marks. gave answer (world, marks)) → Runs (body p) (body p (operands node [])) start (gave answer world)
-came_runs now p node start world answer h = let i = came_seen now p node start world answer h in sights_are_runs p (body p (operands node [])) start (gave answer world) i.0 i.1.0

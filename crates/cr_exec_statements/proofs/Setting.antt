@@ -15,7 +15,8 @@ use Rattle.cr_exec_slices.specs.Shown.{Joined}
 use Rattle.cr_exec_turns.specs.Held.{shows}
 use Rattle.cr_exec_turns.specs.declared.held.Held.{Held}
 use Rattle.cr_exec_statements.specs.Kept.{values_in, passing}
-use Rattle.cr_exec_statements.proofs.Keeping.{values_shown, passing_joins}
+use Rattle.cr_exec_turns.proofs.Valued.{values_shown}
+use Rattle.cr_exec_statements.proofs.Keeping.{passing_joins}
 use Rattle.cr_exec_statements.specs.Sets.{unset_by, set_by}
 
 pub declare_joins : (p : Program) (node : ℕ) (op : Op) (k : Work) (declared : ℕ) (answers : List Answer) (w v : World) (r : Result (Unit {0}) Halted) (result : Result Held Halted)

@@ -9,16 +9,9 @@ use Rattle.cr_meaning.specs.declared.value.Value.TheVariants.{Nothing, Number}
 use Rattle.cr_exec_slices.specs.Shown.{Worked, Joined}
 use Rattle.cr_exec_slices.specs.declared.nodes.Halted.{Halted}
 use Rattle.cr_exec_turns.specs.Held.{shows}
+pub use Rattle.cr_exec_turns.specs.Held.{value_in, values_in}
 use Rattle.cr_exec_turns.specs.declared.held.Held.{Held}
 use Rattle.cr_exec_turns.specs.declared.held.Held.TheVariants as held
-
--- the value of an expression's answer
-abbrev pub value_in : Held → Value
-value_in (held.Part given) = given.value
-value_in other = Nothing
-
-abbrev pub values_in : List Held → List Value
-values_in done = map value_in done
 
 -- the next statement follows on work that gives no answer
 abbrev pub passing : Result (Unit {0}) Halted → Result Held Halted

@@ -1,8 +1,7 @@
 // The whole program before and behind main (C11 5.1.2).
 ghost use Rattle.std.specs.Prelude.{◌≡◌, List};
 ghost use Rattle.std.specs.List.{AllZip};
-ghost use Rattle.cr_meaning.specs.Language.{went};
-ghost use Rattle.cr_meaning.specs.World.{Answer, next};
+ghost use Rattle.cr_meaning.specs.World.{Answer};
 ghost use Rattle.cr_meaning.specs.Nodes.{entering, deeper, last_in};
 ghost use Rattle.cr_meaning.specs.Meaning.{main_entered, program_before, program_end};
 ghost use Rattle.cr_eval.specs.Table.{program_of};
@@ -17,22 +16,10 @@ use cr_eval::Table;
 use cr_exec_slices::Halted;
 use cr_exec_stack::Stack;
 use cr_exec_turns::Held;
-use cr_exec_world::{World, enter, enter_each, mark, spelled_for};
+use cr_exec_world::{World, deeper, enter, enter_each, spelled_for};
 use cr_ints::IntKind;
 use cr_meaning::{Parameter, Value};
 use cr_memory::{Cell, Guard, Pointer, Scalar};
-
-/// One more call runs.
-fn deepen(world: &mut World) -> Result<(), Halted>
-    ensures work { Worked (went next (deeper (world_of world.old))) result (world_of world.new) }
-    ensures steps { world.new.steps ≡ world.old.steps }
-{
-    let Some(depth) = world.depth.checked_add(1) else {
-        return Err(Halted::NoMemory);
-    };
-    world.depth = depth;
-    mark(world)
-}
 
 /// main's parameters get 0 and a pointer to the array (5.1.2.2.1p2): N3.
 fn enter_arguments(
@@ -96,7 +83,7 @@ fn call_main(
     ensures work { Worked (entering (main_entered (program_of table.now) strings parameters.now (deeper (world_of world.old)))) result (world_of world.new) }
     ensures steps { world.new.steps ≡ world.old.steps }
 {
-    match deepen(world) {
+    match deeper(world) {
         Ok(()) => match parameters {
             [count, vector] => enter_main(table, world, strings, count.node, vector.node),
             _ => Ok(()),

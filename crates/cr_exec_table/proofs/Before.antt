@@ -61,10 +61,6 @@ map_append : {X A : Type 0} (f : X → A) (xs ys : List X) → map f (xs ++ ys) 
 map_append f [] ys = refl
 map_append f (x ∷ xs) ys = ap (λ r. f x ∷ r) (map_append f xs ys)
 
--- the labels from a node on, with room for one more than m
-behind : {X : Type 0} (label : Bool) → List X → List X
-behind label rest = if label then rest else []
-
 cases_step : (t : Typed) (m number node : ℕ) → map (case_of number) (cases_by (suc m) t node)
     ≡ own_case t number node ++ map (case_of number) (if is_label (kind_at t node) then cases_by m t (labelled t node) else [])
 cases_step t m number node =

@@ -5,6 +5,7 @@ ghost use Rattle.cr_typed.specs.declared.typed.Duration.TheVariants.{NoObject};
 ghost use Rattle.cr_exec_table.specs.Names.{AreNames};
 
 use cr_exec_shapes::Types;
+use cr_rows::entry_at;
 use cr_syntax::Kind;
 use cr_typed::{Duration, Typed};
 use std::alloc::{AllocError, Global};
@@ -117,32 +118,21 @@ fn is_name(kind: Kind) -> bool
 fn known_name(names: &Vec<u32>, at: u32) -> u32
     ensures { result ≡ slice_index_or names.now.items at 0 }
 {
-    number_at(names, at)
+    entry_at(names, at as usize, 0)
 }
 
 fn entity_at(typed: &Typed, node: u32) -> Option<u32>
     ensures { result ≡ slice_index_or typed.now.refs node None }
 {
-    let refs = typed.refs.as_slice();
-    let at = node as usize;
-    if at < refs.len() { refs[at] } else { None }
+    entry_at(typed.refs.as_slice(), node as usize, None)
 }
 
 fn duration_at(typed: &Typed, node: u32) -> Duration
     ensures { result ≡ slice_index_or typed.now.durations node NoObject }
 {
-    let durations = typed.durations.as_slice();
-    let at = node as usize;
-    if at < durations.len() {
-        durations[at]
-    } else {
-        Duration::NoObject
-    }
-}
-
-fn number_at(numbers: &[u32], at: u32) -> u32
-    ensures { result ≡ slice_index_or numbers.now at 0 }
-{
-    let at = at as usize;
-    if at < numbers.len() { numbers[at] } else { 0 }
+    entry_at(
+        typed.durations.as_slice(),
+        node as usize,
+        Duration::NoObject,
+    )
 }

@@ -11,6 +11,7 @@ use cr_check_types::Shape;
 use cr_exec_shapes::Types;
 use cr_ints::{IntKind, common, promote};
 use cr_meaning::{Change, Operator, Relation, Work};
+use cr_rows::entry_at;
 use cr_syntax::CType;
 
 /// The work of an operator or a statement whose parts are all operands.
@@ -204,9 +205,7 @@ fn chosen_row(types: &Types, node: u32, row: u32) -> u32
 fn chosen(types: &Types, node: u32) -> usize
     ensures { result ≡ slice_index_or types.now.chosen node 0 }
 {
-    let chosen = types.typed().chosen.as_slice();
-    let at = node as usize;
-    if at < chosen.len() { chosen[at] } else { 0 }
+    entry_at(types.typed().chosen.as_slice(), node as usize, 0)
 }
 
 fn member(types: &Types, node: u32, row: u32) -> Work
@@ -264,13 +263,7 @@ pub(crate) fn constant_of(types: &Types, node: u32, value: i128) -> Work
 pub(crate) fn constant_at(types: &Types, node: u32) -> Option<i128>
     ensures { result ≡ slice_index_or types.now.constants node None }
 {
-    let constants = types.typed().constants.as_slice();
-    let at = node as usize;
-    if at < constants.len() {
-        constants[at]
-    } else {
-        None
-    }
+    entry_at(types.typed().constants.as_slice(), node as usize, None)
 }
 
 pub(crate) fn value_or(value: Option<i128>) -> i128

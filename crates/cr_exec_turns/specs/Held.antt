@@ -1,6 +1,8 @@
 -- Answers of the meaning, as they are kept.
-use Rattle.std.specs.Prelude.{◌≡◌}
+use Rattle.std.specs.Prelude.{◌≡◌, List, map}
 use Rattle.cr_eval_join.specs.Parts.{IsPartOf}
+use Rattle.cr_meaning.specs.declared.value.Value.{Value}
+use Rattle.cr_meaning.specs.declared.value.Value.TheVariants.{Nothing}
 use Rattle.cr_meaning.specs.World.{Answer, next, broke, continued, jumped, returned}
 use Rattle.cr_exec_turns.specs.declared.held.Held.{Held}
 use Rattle.cr_exec_turns.specs.declared.held.Held.TheVariants as held
@@ -13,3 +15,11 @@ shows held.Broke answer = answer ≡ broke
 shows held.Continued answer = answer ≡ continued
 shows (held.Jumped label) answer = answer ≡ jumped label
 shows (held.Returned value) answer = answer ≡ returned value
+
+-- the value of an expression's answer
+abbrev pub value_in : Held → Value
+value_in (held.Part given) = given.value
+value_in other = Nothing
+
+abbrev pub values_in : List Held → List Value
+values_in done = map value_in done

@@ -14,7 +14,9 @@ use cr_eval_join::{Next, ahead};
 use cr_exec_slices::Way;
 use cr_meaning::{Op, Work};
 
-pub(crate) fn is_expression(work: &Work) -> bool
+/// Whether the node is an expression, no statement, no declaration and not the whole program.
+#[inline]
+pub fn is_expression(work: &Work) -> bool
     ensures { result ≡ is_expression work.now }
 {
     match work {

@@ -11,5 +11,6 @@ mod loops;
 mod turn;
 mod ways;
 
+pub use expressions::is_expression;
 pub use held::Held;
 pub use turn::next;

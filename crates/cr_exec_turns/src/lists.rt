@@ -26,10 +26,7 @@ fn item_at(labels: &[Target], label: u32) -> Option<usize>
 fn is_passed(done: &[Held], at: usize) -> bool
     ensures { result ≡ is_passed (slice_get done.now at) }
 {
-    match done.get(at) {
-        Some(Held::Next) => true,
-        _ => false,
-    }
+    matches!(done.get(at), Some(Held::Next))
 }
 
 /// At an item, as if those before it had been executed. The answers of such items stay where they stand, since a list may be long.

@@ -35,10 +35,6 @@ pub enters : (world : World) (node : ℕ) (object : Object) → has_room world.m
     → entering (enter_object world node object) ≡ went next (with_binding world node object)
 enters world node object h = ap (λ (b : Bool). entering (if b then Ok (with_binding world node object) else Err (Left 3, node))) h
 
-pub no_room : (world : World) (node : ℕ) (object : Object) → has_room world.memory (length object.shape) ≡ false
-    → entering (enter_object world node object) ≡ halts (stopped (Left 3) node)
-no_room world node object h = ap (λ (b : Bool). entering (if b then Ok (with_binding world node object) else Err (Left 3, node))) h
-
 -- ---- one object that begins with cells
 
 pub room_if : (b : Bool) (number : ℕ) (trap : Trap) → (b ≡ false → ◌≡◌ {A = Result ℕ Trap} (Ok number) (Err trap)) → b ≡ true
@@ -60,32 +56,3 @@ pub worked_by : (act : Act) (r : Result (Unit {0}) Halted) (world : World) → O
 worked_by act (Ok tt) world h k = record { works = h }
 worked_by act (Err halted) world h k =
     let P : Halted → Type 0 = λ x. Worked act (Err x) world in subst P (sym k) (record { works = tt })
-
--- ---- one after another
-
-entered_so : (r : Result World (Trap × ℕ)) (world : World) → entering r ≡ went next world → r ≡ Ok world
-entered_so (Ok w) world e = cc e
-entered_so (Err case) world e = absurd (cc e)
-
-abbrev onward : (ℕ → Object) → List ℕ → Result World (Trap × ℕ) → Result World (Trap × ℕ)
-onward made nodes (Ok world) = enter_all made world nodes
-onward made nodes (Err case) = Err case
-
-is_onward : (made : ℕ → Object) (nodes : List ℕ) (r : Result World (Trap × ℕ))
-    → elim r as (λ _. Result World (Trap × ℕ)) [ Ok entered ↦ enter_all made entered nodes | Err trap ↦ Err trap ] ≡ onward made nodes r
-is_onward made nodes (Ok world) = refl
-is_onward made nodes (Err case) = refl
-
-pub entered_one : (made : ℕ → Object) (world after : World) (node : ℕ) (nodes : List ℕ) → entering (enter_object world node (made node)) ≡ went next after
-    → enter_all made world (node ∷ nodes) ≡ enter_all made after nodes
-entered_one made world after node nodes e =
-    is_onward made nodes (enter_object world node (made node)) ∙ ap (onward made nodes) (entered_so (enter_object world node (made node)) after e)
-
-refused_by : (made : ℕ → Object) (nodes : List ℕ) (r : Result World (Trap × ℕ)) (halt : Halt) → entering r ≡ halts halt → entering (onward made nodes r) ≡ halts halt
-refused_by made nodes (Ok world) halt e = absurd (cc e)
-refused_by made nodes (Err case) halt e = e
-
-pub refused_one : (made : ℕ → Object) (world : World) (node : ℕ) (nodes : List ℕ) (halt : Halt) → entering (enter_object world node (made node)) ≡ halts halt
-    → entering (enter_all made world (node ∷ nodes)) ≡ halts halt
-refused_one made world node nodes halt e =
-    ap entering (is_onward made nodes (enter_object world node (made node))) ∙ refused_by made nodes (enter_object world node (made node)) halt e

@@ -18,12 +18,6 @@ found latest (entry.Bound node object before ∷ rest) n h =
     by_test (node == n) latest (map entry_of rest) node n object before refl h.0 (found (set latest node before) rest n h.1)
 found latest (entry.Mark ∷ rest) n h = found latest rest n h
 
-pub none_pushed : (xs : List (Option ℕ)) (n : ℕ) → ((k : ℕ) → get_or xs k None ≡ None) → get_or (xs ++ None ∷ []) n None ≡ None
-none_pushed [] zero h = refl
-none_pushed [] (suc n) h = refl
-none_pushed (x ∷ xs) zero h = h 0
-none_pushed (x ∷ xs) (suc n) h = none_pushed xs n (λ k. h (suc k))
-
 pub bound_follows : (latest : List (Option ℕ)) (entries more : List Entry) (node object : ℕ) (before : Option ℕ) → node < length latest → before ≡ get_or latest node None
     → more ≡ entries ++ entry.Bound node object before ∷ [] → IsFollowed latest (reverse entries) → IsFollowed (set latest node (Some object)) (reverse more)
 bound_follows latest entries more node object before room was e h =

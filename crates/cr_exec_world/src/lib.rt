@@ -11,6 +11,6 @@ mod world;
 
 pub use cells::{blank, clear, write};
 pub use names::{Binding, Names};
-pub use objects::{close, enter, enter_each, mark, open, shape_for, spelled_for};
+pub use objects::{close, deeper, enter, enter_each, mark, open, shape_for, spelled_for};
 pub use steps::{NO_STEP, reach, step};
 pub use world::World;

@@ -1,5 +1,5 @@
 // The objects of names.
-ghost use Rattle.std.specs.Prelude.{◌≡◌, ℕ, None, slice_index_or, [], ◌∷◌, MatchOption, OnOk, IfOk, IfErr};
+ghost use Rattle.std.specs.Prelude.{◌≡◌, [], ◌∷◌, MatchOption, OnOk, IfOk, IfErr};
 ghost use Rattle.cr_meaning.specs.World.{object_for, bound, mark};
 ghost use Rattle.cr_exec_world.specs.Names.{binding_of};
 
@@ -46,32 +46,18 @@ impl Model for Names {
     ghost invariant = { λ names. IsFollowed names.latest.items (reverse names.entries.items) };
 }
 
-/// So many nodes without an object.
-fn none_each(alloc: Global, nodes: usize) -> Result<Vec<Option<u32>>, Trap>
-    ensures each { IfOk result (λ all. (node : ℕ) → slice_index_or all.items node None ≡ None) }
-    ensures causes { IfErr result (λ trap. trap ≡ Trap.NoMemory) }
-{
-    let mut all = Vec::new(alloc);
-    for _ in 0..nodes {
-        let Ok(()) = all.push(None) else {
-            return Err(Trap::NoMemory);
-        };
-    }
-    Ok(all)
-}
-
 impl Names {
     /// No binding yet, of any of so many nodes. The error is want of memory.
     pub fn new(alloc: Global, nodes: usize) -> Result<Names, Trap>
         ensures none { IfOk result (λ names. names ≡ []) }
         ensures causes { IfErr result (λ trap. trap ≡ Trap.NoMemory) }
     {
-        match none_each(alloc, nodes) {
+        match vec![in alloc; None; nodes] {
             Ok(latest) => Ok(Names {
                 latest,
                 entries: Vec::new(alloc),
             }),
-            Err(trap) => Err(trap),
+            Err(_) => Err(Trap::NoMemory),
         }
     }
 

@@ -3,7 +3,7 @@ ghost use Rattle.std.specs.Prelude.{◌≡◌, None, Some, ◌∷◌, IfErr, OnO
 ghost use Rattle.cr_memory.specs.Memory.{new_object};
 ghost use Rattle.cr_meaning.specs.World.{enter_object, enter_all, bound, marked, left_by, closed, next};
 ghost use Rattle.cr_meaning.specs.Language.{went};
-ghost use Rattle.cr_meaning.specs.Nodes.{entering};
+ghost use Rattle.cr_meaning.specs.Nodes.{entering, deeper};
 ghost use Rattle.cr_meaning.specs.Meaning.{opened};
 ghost use Rattle.cr_eval.specs.Table.{program_of};
 ghost use Rattle.cr_exec_slices.specs.Shown.{Worked};
@@ -147,6 +147,18 @@ pub fn mark(world: &mut World) -> Result<(), Halted>
         Ok(()) => Ok(()),
         Err(_) => Err(Halted::NoMemory),
     }
+}
+
+/// One call more runs.
+pub fn deeper(world: &mut World) -> Result<(), Halted>
+    ensures work { Worked (went next (deeper (world_of world.old))) result (world_of world.new) }
+    ensures steps { world.new.steps ≡ world.old.steps }
+{
+    let Some(depth) = world.depth.checked_add(1) else {
+        return Err(Halted::NoMemory);
+    };
+    world.depth = depth;
+    mark(world)
 }
 
 /// A block begins, with its objects of automatic duration: N3.

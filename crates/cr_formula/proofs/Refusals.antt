@@ -12,9 +12,6 @@ NoneBegins word words = (rest : List (List ℕ)) → words ≡ word ∷ rest →
 pub not_open : (words : List (List ℕ)) (depth : ℕ) → NoneBegins (codes "(") words → NoFormula (codes "not" ∷ words) depth
 not_open words depth none f rest it deep = let found = only_negated f words rest it in none found.2 found.3
 
-pub two_open : (words : List (List ℕ)) (depth : ℕ) → NoneBegins (codes "(") words → NoTwo words depth
-two_open words depth none f g rest it low small = none it.0 it.2
-
 -- two formulas in brackets are none behind a name
 pub no_both : (words : List (List ℕ)) (left : ℕ) → NoTwo words left → NoFormula (codes "and" ∷ words) (left + 1)
 no_both words left none f rest it deep =
@@ -27,12 +24,6 @@ no_either words left none f rest it deep =
     let found = only_either f words rest it in
     let depth : max (nesting_of found.0) (nesting_of found.1) + 1 ≤ left + 1 = subst (λ g. nesting_of g ≤ left + 1) found.2 deep in
     none found.0 found.1 rest found.3 (omega arith) (omega arith)
-
-pub is_both : (f g : Form) (words rest : List (List ℕ)) → ReadsTwo f g words rest → Reads (both f g) (codes "and" ∷ words) rest
-is_both f g words rest it = (it.0, it.1, ap (λ ws. codes "and" ∷ ws) it.2, it.3, it.4)
-
-pub is_either : (f g : Form) (words rest : List (List ℕ)) → ReadsTwo f g words rest → Reads (either f g) (codes "or" ∷ words) rest
-is_either f g words rest it = (it.0, it.1, ap (λ ws. codes "or" ∷ ws) it.2, it.3, it.4)
 
 module _ (words inside : List (List ℕ)) (left : ℕ) (opened : words ≡ codes "(" ∷ inside) where
   pub not_one : NoFormula inside left → NoFormula (codes "not" ∷ words) (left + 1)
@@ -47,11 +38,6 @@ module _ (words inside : List (List ℕ)) (left : ℕ) (opened : words ≡ codes
       let found = only_negated f words rest it in
       let same : inside ≡ found.2 = behind inside found.2 (codes "(") (sym opened ∙ found.3) in
       none rest (once one found.0 inside found.2 after (codes ")" ∷ rest) same read found.4).1
-
-  pub two_one : NoFormula inside left → NoTwo words left
-  two_one none f g rest it low small =
-      let same : it.0 ≡ inside = behind it.0 inside (codes "(") (sym it.2 ∙ opened) in
-      none f (codes "," ∷ it.1) (subst (λ ws. Reads f ws (codes "," ∷ it.1)) same it.3) low
 
   module _ (one : Form) (after : List (List ℕ)) (read : Reads one inside after) where
     parted_by : (f g : Form) (rest : List (List ℕ)) (it : ReadsTwo f g words rest) → after ≡ codes "," ∷ it.1

@@ -8,23 +8,6 @@ use Rattle.std.specs.Int.Signed.{shr_z}
 use Rattle.cr_ints.proofs.Ranges.{narrow_least, narrow_greatest}
 use Rattle.cr_ints.specs.IntKind.{Represents, IsInteger}
 
-unsigned_abs-neg : (n : ℕ) → unsigned_abs (neg_ℤ (pos n)) ≡ n
-unsigned_abs-neg zero = refl
-unsigned_abs-neg (suc n) = refl
-
-pub quotient_size : (left right : ℤ) → unsigned_abs (int_div left right) ≤ unsigned_abs left
-quotient_size (pos a) (pos b) = div-le_self a b
-quotient_size (pos a) (negsuc b) = rw unsigned_abs-neg (div-le_self a (suc b))
-quotient_size (negsuc a) (pos b) = rw unsigned_abs-neg (div-le_self (suc a) b)
-quotient_size (negsuc a) (negsuc b) = div-le_self (suc a) (suc b)
-
--- the quotient of two operands fits the code's numbers
-pub quotient_fits : (left right : ℤ) → IsInteger left → FitsSigned w128 (int_div left right)
-quotient_fits left right h =
-    let q = quotient_size left right in
-    let s : unsigned_abs left ≤ 2 ^ 64 = omega (arith, ints) in
-    fits_signed_from_abs w128 _ (omega arith)
-
 -- the remainder lies between 0 and the left operand, and so in every range that has the left operand
 pub rem-represents : (kind : IntKind) (left right : ℤ) → Represents kind left → Represents kind (int_rem left right)
 rem-represents kind (pos a) right h =

@@ -59,12 +59,6 @@ narrow_least = each (λ kind. (negsuc (2 ^ 63 - 1) ≤ℤ least_of kind) × (lea
     (omega arith, omega arith) (omega arith, omega arith) (omega arith, omega arith) (omega arith, omega arith)
     (omega arith, omega arith) (omega arith, omega arith) (omega arith, omega arith) (omega arith, omega arith)
 
-pub narrow_modulus : (kind : IntKind) → (pos 2 ≤ℤ modulus_of kind) × (modulus_of kind ≤ℤ pos (2 ^ 64))
-narrow_modulus = each (λ kind. (pos 2 ≤ℤ modulus_of kind) × (modulus_of kind ≤ℤ pos (2 ^ 64)))
-    (omega arith, omega arith) (omega arith, omega arith) (omega arith, omega arith) (omega arith, omega arith)
-    (omega arith, omega arith) (omega arith, omega arith) (omega arith, omega arith) (omega arith, omega arith)
-    (omega arith, omega arith) (omega arith, omega arith) (omega arith, omega arith) (omega arith, omega arith)
-
 pub narrow_greatest : (kind : IntKind) → (pos 0 ≤ℤ greatest_of kind) × (greatest_of kind ≤ℤ pos (2 ^ 64 - 1))
 narrow_greatest = each (λ kind. (pos 0 ≤ℤ greatest_of kind) × (greatest_of kind ≤ℤ pos (2 ^ 64 - 1)))
     (omega arith, omega arith) (omega arith, omega arith) (omega arith, omega arith) (omega arith, omega arith)

@@ -6,16 +6,6 @@ use Rattle.cr_reduce.specs.declared.end.Accepted.{Accepted}
 use Rattle.cr_journal_rows.specs.declared.header.Header.{Header}
 use Rattle.cr_journal_rows.specs.Forms.{HeaderFits, RowFits, ending, header_body, row_body}
 
-module _ (body : List ℕ) (pass level index size turn : ℕ) (fields numbers sizes turns end : List ℕ) where
-  pub row_split : body ≡ pass ∷ level ∷ fields → fields ≡ to_le_bytes w64 index ++ sizes → sizes ≡ to_le_bytes w64 size ++ turns → turns ≡ to_le_bytes w64 turn ++ end
-      → body ≡ (pass ∷ level ∷ []) ++ to_le_bytes w64 index ++ to_le_bytes w64 size ++ to_le_bytes w64 turn ++ end
-  row_split is a b c = is ∙ ap (λ (l : List ℕ). pass ∷ level ∷ l) (a ∙ ap (λ (l : List ℕ). to_le_bytes w64 index ++ l) (b ∙ ap (λ (l : List ℕ). to_le_bytes w64 size ++ l) c))
-
-module _ (body : List ℕ) (passes steps limit size : ℕ) (a b c end : List ℕ) where
-  pub header_split : body ≡ to_le_bytes w16 passes ++ a → a ≡ to_le_bytes w64 steps ++ b → b ≡ to_le_bytes w64 limit ++ c → c ≡ to_le_bytes w64 size ++ end
-      → body ≡ to_le_bytes w16 passes ++ to_le_bytes w64 steps ++ to_le_bytes w64 limit ++ to_le_bytes w64 size ++ end
-  header_split is x y z = is ∙ ap (λ (l : List ℕ). to_le_bytes w16 passes ++ l) (x ∙ ap (λ (l : List ℕ). to_le_bytes w64 steps ++ l) (y ∙ ap (λ (l : List ℕ). to_le_bytes w64 limit ++ l) z))
-
 number_at : (at n m : ℕ) (one other : List ℕ) → n < 2 ^ 64 → m < 2 ^ 64 → take 8 (drop at one) ≡ to_le_bytes w64 n → take 8 (drop at other) ≡ to_le_bytes w64 m → one ≡ other → n ≡ m
 number_at at n m one other fits fits_too has has_too same =
     sym (from_le_bytes-to_le_bytes_8 n fits) ∙ ap (from_le_bytes w64) (sym has ∙ ap (λ (l : List ℕ). take 8 (drop at l)) same ∙ has_too) ∙ from_le_bytes-to_le_bytes_8 m fits_too

@@ -64,11 +64,6 @@ after_header header bodies i first =
       before = form_after header bodies first.row first.before;
     })
 
-pub no_header : (body : Body) (bodies : List Body) → (HasForm 0 body → ⊥) → IsFirstBad (body ∷ bodies) 0
-no_header body bodies bad = record {
-  within = omega arith;
-  bad = bad;
-  before = λ j short. absurd (omega (arith, short));
 }
 
 -- behind a header, what was refused of the rows

@@ -41,30 +41,6 @@ pub recovers : (told : Option Story) (bodies : List (Vec ℕ Global)) (result : 
 recovers None bodies result reads found = tt
 recovers (Some s) bodies result reads found = recovers_from bodies s result reads found
 
-pub none_then : (told : Option Story) (bodies : List (Vec ℕ Global)) (result : Found) → ReadsTold told (reading.bodies_of bodies) → ReadsBodies bodies result → result ≡ Ok None → StandsNone told
-none_then told bodies (Ok None) reads none is = none_stand bodies told reads none
-none_then told bodies (Ok (Some journal)) reads found is = absurd (cc is)
-none_then told bodies (Err fault) reads found is = absurd (cc is)
-
--- a header was read, so some body
-some_bodies : (bodies : List (Vec ℕ Global)) (header : Header) (rows : List Accepted) → reading.bodies_of bodies ≡ bodies_of header rows → bodies ≢ []
-some_bodies [] header rows same none = cc same
-some_bodies (body ∷ more) header rows same none = cc none
-
-pub rests_then : (told : Option Story) (bodies : List (Vec ℕ Global)) (result : Found) → (bodies ≢ [] → EveryTold (AtRest (reading.bodies_of bodies)) told) → ReadsBodies bodies result
-    → IfOk result (λ found. IfSome found (λ journal. EveryTold (AtRest (bodies_of journal.0 journal.1.items)) told))
-rests_then told bodies (Ok None) rests found = tt
-rests_then told bodies (Ok (Some (header, rows))) rests (same, low, fits) =
-    subst (λ (l : List Body). EveryTold (AtRest l) told) same (rests (some_bodies bodies header rows.items same))
-rests_then told bodies (Err fault) rests found = tt
-
-pub long_then : (size : ℕ) (bodies : List (Vec ℕ Global)) (result : Found) → (bodies ≢ [] → 32 * length bodies + 1 ≤ size) → ReadsBodies bodies result
-    → IfOk result (λ found. IfSome found (λ journal. 32 * length journal.1.items + 33 ≤ size))
-long_then size bodies (Ok None) long found = tt
-long_then size bodies (Ok (Some (header, rows))) long (same, low, fits) =
-    omega (arith, long (some_bodies bodies header rows.items same), ap length same, length-map bodies (λ (v : Vec ℕ Global). v.items), length-map rows.items row_body)
-long_then size bodies (Err fault) long found = tt
-
 pub fits_then : (bodies : List (Vec ℕ Global)) (result : Found) → ReadsBodies bodies result → IfOk result (λ found. IfSome found (λ journal. AllFit journal.0 journal.1.items))
 fits_then bodies (Ok None) found = tt
 fits_then bodies (Ok (Some (header, rows))) (same, low, fits) = fits

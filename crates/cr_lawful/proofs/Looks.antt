@@ -12,15 +12,6 @@ use Rattle.cr_cursor.specs.declared.law.Ruling.TheVariants as ruling
 use Rattle.cr_lawful.specs.Lawful.{IsTypedUnit, run_ruling}
 use Rattle.cr_lawful.specs.Looks.{HasLookedThrough, IsNotBelow, Looks}
 
-pub no_look : (looks : ℕ) → IsNotBelow looks looks
-no_look looks = omega arith
-
-pub one_look : (before after : ℕ) → after ≡ after_look before → IsNotBelow before after
-one_look before after is = omega (arith, is)
-
-pub in_turn : (before between after : ℕ) → IsNotBelow before between → IsNotBelow between after → IsNotBelow before after
-in_turn before between after one two = omega (arith, one, two)
-
 -- what the run's own looks were
 pub run_looks : (limits : Limits) (file : List ℕ) (typed : Typed) (outcome : Run) (before after : ℕ) → IsTypedUnit file typed
     → (has_come outcome ≡ true → Comes typed limits outcome) → Looked outcome limits.steps before after

@@ -68,14 +68,8 @@ module _ (file : List ℕ) (p : Program) (it : IsProgram file p) where
       subst (λ ts. AreWithin (length ts) p.typed.nodes) tokens_are
       (subst (AreWithin (length it.of_file.unit.tokens.list.items)) nodes_are it.of_file.unit.within)
 
-  pub below : PartsAreBelow p.typed.nodes
-  below = subst PartsAreBelow nodes_are it.of_file.unit.parts_below
-
   pub named_once : NamedOnce p.typed.nodes p.typed.items
   named_once = subst (NamedOnce p.typed.nodes) items_are (subst (λ ns. NamedOnce ns it.of_file.unit.items) nodes_are it.of_file.unit.named_once)
-
-  pub are_nodes : ItemsAreNodes p.typed.nodes p.typed.items
-  are_nodes = subst (ItemsAreNodes p.typed.nodes) items_are (subst (λ ns. ItemsAreNodes ns it.of_file.unit.items) nodes_are it.of_file.unit.items_are_nodes)
 
   -- and a unit of them is what is read of the file
   pub is_read : (u : source.Unit) → u.tokens.list.items ≡ p.typed.tokens → u.nodes ≡ p.typed.nodes → u.items ≡ p.typed.items

@@ -21,6 +21,7 @@ use Rattle.cr_scopes.specs.declared.told.Told.{Told}
 use Rattle.cr_scopes.specs.Resolved.{AreNames, IsFirstFault, count_of, entity_of, nobody}
 use Rattle.cr_scopes.specs.Spelled.{name_of}
 use Rattle.cr_scopes.specs.Units.{IsUnitFault}
+use Rattle.cr_scopes.proofs.One.{one_entities}
 use Rattle.cr_check.specs.declared.checked.Checked.{Checked}
 use Rattle.cr_check.specs.declared.fault.TypeFault.{TypeFault}
 use Rattle.cr_check.specs.declared.fault.TypeFault.TheVariants as type_fault
@@ -38,17 +39,6 @@ same_tree file tokens tree other is also =
     let e = one_unit is.is_tree.is_unit also.is_tree.is_unit in
     let same = listing.one_list tree.nodes other.nodes tree.items other.items is.below also.below is.listed also.listed e in
     ap {B = Tree} (λ x. record { nodes = x; items = tree.items }) same.0 ∙ ap {B = Tree} (λ x. record { nodes = other.nodes; items = x }) same.1
-
--- Names have one list of entities.
-one_entities : (at : ℕ → Option Told) (bound : ℕ) (names other : Names) → AreNames at bound names → AreNames at bound other → names ≡ other
-one_entities at bound names other is also =
-    let entities = ext_get_or nobody names.entities other.entities (is.count ∙ sym also.count) (λ k low.
-    let below : k < count_of at bound = subst (λ n. k < n) is.count low in
-    get_or_from_slice_get names.entities k (entity_of at bound k) nobody (is.entities k below)
-    ∙ sym (get_or_from_slice_get other.entities k (entity_of at bound k) nobody (also.entities k below))) in
-    let tokens = ext_get_or {A = Option ℕ} None names.of_token other.of_token (is.tokens ∙ sym also.tokens) (λ t low.
-    let below : t < bound = subst (λ n. t < n) is.tokens low in is.of_token t below ∙ sym (also.of_token t below)) in
-    ap {B = Names} (λ x. record { entities = x; of_token = names.of_token }) entities ∙ ap {B = Names} (λ x. record { entities = other.entities; of_token = x }) tokens
 
 pub one_names : (file : List ℕ) (tokens : List Token) (tree : Tree) (names other : Names) → AreItsNames file tokens tree names → AreItsNames file tokens tree other → names ≡ other
 one_names file tokens tree names other are also = one_entities _ _ names other are.names also.names

@@ -14,10 +14,6 @@ after_index one = decimal one.size ++ 32 ∷ decimal one.turn
 abbrev pub after_level : Accepted → List ℕ
 after_level one = decimal one.at.index ++ 32 ∷ after_index one
 
--- the line of an acceptance starts with its pass
-pub starts_with_pass : (line : List ℕ) (one : Accepted) → IsAcceptedLine line one → StartsWithPass line one.at.pass (decimal one.at.level ++ 32 ∷ after_level one)
-starts_with_pass line one p = record { known = p.loggable.pass; is = p.is }
-
 -- and goes on with its level
 pub starts_with_level : (line : List ℕ) (pass : ℕ) (rest : List ℕ) (one : Accepted) → StartsWithPass line pass rest → IsAcceptedLine line one → StartsWithNumber rest one.at.level (after_level one)
 starts_with_level line pass rest one p q =
@@ -46,9 +42,6 @@ pub last_pair : (line : List ℕ) (why : ℕ) (rest : List ℕ) (w s t : ℕ) �
 last_pair line why rest w s t p q =
     let same = same_why why w rest (decimal s ++ 32 ∷ decimal t) p.known q.ending.known (same_end _ _ (sym p.is ∙ q.is)) in
     record { first_fits = q.ending.size_fits; second_fits = q.ending.turns_fit; is = same.1 }
-
-pub starts_with_why : (line : List ℕ) (w s t : ℕ) → IsLastLine line w s t → StartsWithWhy line w (decimal s ++ 32 ∷ decimal t)
-starts_with_why line w s t p = record { known = p.ending.known; is = p.is }
 
 -- a line in the form has no LF in it
 formed_free : (line : List ℕ) → IsInForm line → All (λ b. b ≢ 10) line

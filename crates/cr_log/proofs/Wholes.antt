@@ -127,9 +127,6 @@ begins_more text xs rest one after p q =
       split = p.split ∙ split ∙ ap (λ t. t ++ after) (sym (lines-push xs one));
     }
 
-pub begins_none : (text : List ℕ) → BeginsWith text [] text
-begins_none text = record { loggable = All-nil IsLoggable; split = refl }
-
 -- a line and its LF have bytes
 pub shorter : (text : List ℕ) (line : Line) (rest : List ℕ) → StartsWithLine text line rest → length rest < length text
 shorter text line rest p = omega (arith, ap length p.is, length-append p.front (10 ∷ rest))

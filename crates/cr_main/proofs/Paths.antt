@@ -26,11 +26,6 @@ same_formula (test.Has text) b same formula = absurd formula
 same_formula (test.Program path) (test.Has text) same formula = let differ = same.asks in cc
 same_formula (test.Program path) (test.Program other) same formula = subst BeginsWithIf (same_path path other same) formula
 
--- a test that spells a formula begins as one
-pub spelled_is_formula : (t : Test) (form : Form) → Spells (word_of t) form → IsFormula t
-spelled_is_formula (test.Has text) form spells = let differ = spells.1 in cc
-spelled_is_formula (test.Program path) form spells = (spells.0, spells.1)
-
 pub same_spelling : (a b : Test) (form : Form) → Agree a b → Spells (word_of a) form → Spells (word_of b) form
 same_spelling (test.Has text) b form same spells = let differ = spells.1 in cc
 same_spelling (test.Program path) (test.Has text) form same spells = let differ = same.asks in cc

@@ -10,15 +10,6 @@ use Rattle.cr_main_task.specs.Task.{FileLacks}
 use Rattle.cr_main_replay.specs.Replay.{FileBegins, HasRead, Reading, StopsAt, Unread, after_reads}
 use Rattle.cr_main_replay.specs.Replay.StopsAt.{no_memory, not_there, unreadable}
 
-shows_first : (content : Option (List ℕ)) (most : ℕ) (bytes : List ℕ) → Shows content most bytes → Shows content most (take most bytes)
-shows_first None most bytes shown = absurd shown
-shows_first (Some whole) most bytes shown = ap (take most) shown ∙ take-take most most whole (omega arith)
-
--- what was read, cut to what was asked for
-pub begins_of : (told : Option Names) (name : List ℕ) (most : ℕ) (v : Vec ℕ) → Reads told name most (Bytes v) → FileBegins told name most (take most v.items)
-begins_of None name most v reads = tt
-begins_of (Some files) name most v reads = shows_first (content_of files name) most v.items reads
-
 pub same_reads : (old : Outside) → HasRead [] old old
 same_reads old = record { story = refl; same = record { files = refl; output = refl; file_faults = omega arith; output_faults = refl } }
 

@@ -100,10 +100,6 @@ starves r old =
     unread (unread_first (record { name = copy_name r.file; most = 1048577 }) (record { name = r.log; most = 1073741824 } ∷ record { name = r.file; most = 1048577 } ∷ []) old old 11
     (no_memory refl (inl refl) refl refl)) refl
 
-pub runs_unread : (r : Replaying) (copy : List ℕ) → copy ≡ copy_name r.file → (old new : Outside) (status : ℕ) → Unread (readings_of copy r.log r.file) old new status → RunsReplay r old new status
-runs_unread r copy named old new status it =
-    unread (subst (λ n. Unread (readings_of n r.log r.file) old new status) named it) (unread_files (readings_of copy r.log r.file) old new status it)
-
 pub runs_answered : (r : Replaying) → IsOfPrograms r.chain.Lawful r.Against → (copy : List ℕ) → copy ≡ copy_name r.file → (t : Taken) (old read new : Outside) (status : ℕ)
     → HasRead (readings_of copy r.log r.file) old read → FileBegins old.files copy 1048577 t.copy.items → FileBegins old.files r.log 1073741824 t.log.items
     → FileBegins old.files r.file 1048577 t.file.items → new.story ≡ read.story → new.files ≡ read.files

@@ -85,11 +85,6 @@ no_replay words others most is none (request.Replay settings) asks =
     let same : asks.0 ≡ others = cc in
     none settings (subst (λ w. HasReplay w settings) same asks.2)
 
-pub no_request : (words : List Word) (most : ℕ) → ((others : List Word) → IsReplay words others → ⊥)
-    → ((settings : Settings) (modes : Modes) → HasReduction words most settings modes → ⊥) → AsksNothing words most
-no_request words most first none (request.Reduction settings modes) asks = none settings modes asks
-no_request words most first none (request.Replay settings) asks = first asks.0 asks.1
-
 -- words ask for one thing at most, but for how its texts are kept
 pub one_request : (words : List Word) (most : ℕ) (a b : Request) → Asks words most a → Asks words most b → SameRequest a b
 one_request words most (request.Reduction a modes) (request.Reduction b others) first second =

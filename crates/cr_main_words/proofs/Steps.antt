@@ -61,10 +61,6 @@ pub data Resting (names : List Word) : Option (Text × List Text) → Waiting �
   used : (name value : Word) → is_name names name ≡ true → Resting names (Some (name, value ∷ [])) idle
   put : (word : Word) → Resting names (Some (place_id, word ∷ [])) positional
 
-and_false : (b : Bool) → (b && false) ≡ false
-and_false true = refl
-and_false false = refl
-
 module _ (s : Shape) (names : List Word) (reads : Reads names s.rules) where
   abbrev c : List Rule
   c = s.rules

@@ -180,7 +180,7 @@ reads_expression p node op done world t answer k h all e =
     (reads_result node op.work done world _ answer t (reads_work p world op.work op.access _ k h) all) e
 
 -- an operation without a side effect is an expression's
-is_expression : (p : Program) (node : ℕ) (op : Op) (w : Work) (done : List Answer) (world : World) → is_quiet_work w ≡ true → join_by p node op w done world ≡ expression p node op done world
+pub is_expression : (p : Program) (node : ℕ) (op : Op) (w : Work) (done : List Answer) (world : World) → is_quiet_work w ≡ true → join_by p node op w done world ≡ expression p node op done world
 is_expression p node op (work.Call callee) done world k = absurd (false≢true k)
 is_expression p node op work.Expression done world k = absurd (false≢true k)
 is_expression p node op work.If done world k = absurd (false≢true k)

@@ -9,6 +9,7 @@ use Rattle.cr_memory.specs.Memory.{Memory}
 use Rattle.cr_meaning.specs.Language.{Acted, went, gave}
 use Rattle.cr_meaning.specs.Events.{Event, clash, operands_clash}
 use Rattle.cr_meaning.specs.Quiet.{is_quiet_work}
+use Rattle.cr_meaning.proofs.Quiet.{is_expression}
 use Rattle.cr_meaning.specs.World.{Program, World, Binding, Answer, part, next, Halt}
 use Rattle.cr_meaning.specs.Work.{Did}
 use Rattle.cr_meaning.specs.Turns.{Way, Operand, Enter, Resume, Ready, operand, choose, answer_truth, and_next, or_next, conditional_next, next_of, next_by}
@@ -68,27 +69,6 @@ goes_expression : (cells : Place → Bool) (p : Program) (node : ℕ) (op : Op) 
 goes_expression cells p node op done s t other answer quiet e reads h bound knows =
     goes_unless (operands_clash (order_of op.work done) 0 (map events_of done)) _ node s t other answer _ _
     (λ f. goes_resulting cells node op.work done s t other h answer _ _ (moves_work cells p s other h bound knows op.work op.access (values done) quiet) f reads) e
-
--- an operation without a side effect is an expression's
-is_expression : (p : Program) (node : ℕ) (op : Op) (w : Work) (done : List Answer) (world : World) → is_quiet_work w ≡ true → join_by p node op w done world ≡ expression p node op done world
-is_expression p node op (work.Call callee) done world k = absurd (false≢true k)
-is_expression p node op work.Expression done world k = absurd (false≢true k)
-is_expression p node op work.If done world k = absurd (false≢true k)
-is_expression p node op work.While done world k = absurd (false≢true k)
-is_expression p node op work.Do done world k = absurd (false≢true k)
-is_expression p node op (work.For objects first control step rest) done world k = absurd (false≢true k)
-is_expression p node op (work.Switch kind rest objects cases other labels) done world k = absurd (false≢true k)
-is_expression p node op (work.Block objects labels) done world k = absurd (false≢true k)
-is_expression p node op work.Labelled done world k = absurd (false≢true k)
-is_expression p node op work.Break done world k = absurd (false≢true k)
-is_expression p node op work.Continue done world k = absurd (false≢true k)
-is_expression p node op (work.Goto label) done world k = absurd (false≢true k)
-is_expression p node op (work.Return form) done world k = absurd (false≢true k)
-is_expression p node op work.Declaration done world k = absurd (false≢true k)
-is_expression p node op (work.Declare declared) done world k = absurd (false≢true k)
-is_expression p node op (work.Initialise declared lines) done world k = absurd (false≢true k)
-is_expression p node op (work.Program objects parameters strings rest) done world k = absurd (false≢true k)
-is_expression p node op other done world k = refl
 
 -- ---- a node's way on
 

@@ -93,9 +93,6 @@ cut_is_loose p count done number inner few two h = let never : count < 2 = h.who
 
 -- ---- one more operand
 
-right_false : (a b : Bool) → (a || b) ≡ false → b ≡ false
-right_false a b e = (or_parts a b e).1
-
 and_off : (a b : Bool) → (a && b) ≡ false → a ≡ true → b ≡ false
 and_off true b e h = e
 and_off false b e h = absurd (false≢true h)

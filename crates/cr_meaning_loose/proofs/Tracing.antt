@@ -25,11 +25,6 @@ IsCut bare = Unit {0}
 IsCut (tree number inner None next) = IsCut inner × (next ≡ bare)
 IsCut (tree number inner (Some events) next) = IsWhole inner × IsCut next
 
-whole_is_cut : (forest : Forest) → IsWhole forest → IsCut forest
-whole_is_cut bare w = tt
-whole_is_cut (tree number inner None next) w = absurd w
-whole_is_cut (tree number inner (Some events) next) w = (w.0, whole_is_cut next w.1)
-
 whole_onto : (one more : Forest) → IsWhole one → IsWhole more → IsWhole (onto one more)
 whole_onto bare more w v = v
 whole_onto (tree number inner None next) more w v = absurd w

@@ -35,6 +35,7 @@ use Rattle.cr_syntax.specs.declared.ctype.CType.TheVariants.{Int, Function}
 use Rattle.cr_syntax.specs.declared.node.Kind.{Kind}
 use Rattle.cr_syntax.specs.declared.node.Kind.TheVariants as kind
 use Rattle.cr_syntax.specs.declared.node.Node.{Node}
+pub use Rattle.cr_syntax.specs.Numbered.{first_if, last_if, parts_if, spelling_if}
 use Rattle.cr_tokens.specs.declared.token.Token.{Token}
 use Rattle.cr_typed.specs.declared.typed.Typed.{Typed}
 use Rattle.cr_typed.specs.Typed.{row_cells}
@@ -53,33 +54,17 @@ kind_if (Some node) = node.kind
 abbrev pub kind_at : Typed → ℕ → Kind
 kind_at t node = kind_if (slice_get t.nodes node)
 
-abbrev pub parts_if : Option Node → List ℕ
-parts_if None = []
-parts_if (Some node) = node.parts
-
 abbrev pub parts_at : Typed → ℕ → List ℕ
 parts_at t node = parts_if (slice_get t.nodes node)
 
 abbrev pub part_at : Typed → ℕ → ℕ → ℕ
 part_at t node number = slice_index_or (parts_at t node) number 0
 
-abbrev pub first_if : Option Node → ℕ
-first_if None = 0
-first_if (Some node) = node.first
-
-abbrev pub last_if : Option Node → ℕ
-last_if None = 0
-last_if (Some node) = node.last
-
 abbrev pub first_at : Typed → ℕ → ℕ
 first_at t node = first_if (slice_get t.nodes node)
 
 abbrev pub last_at : Typed → ℕ → ℕ
 last_at t node = last_if (slice_get t.nodes node)
-
-abbrev pub spelling_if : List ℕ → Option Token → List ℕ
-spelling_if file None = []
-spelling_if file (Some token) = slice_range file token.start token.end
 
 -- a call is spelled like this function
 abbrev pub calls : Typed → ℕ → List ℕ → Bool

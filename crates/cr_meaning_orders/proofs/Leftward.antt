@@ -13,39 +13,9 @@ use Rattle.cr_meaning.specs.declared.op.Op.{Op}
 use Rattle.cr_meaning_orders.specs.Laws
 use Rattle.cr_meaning_orders.specs.AnyOrder.{by_give, by_act, by_halt, by_call, by_end, Asked, reach, operands, picking, asked, AnyMeaning, lifted, starting, starting_by, is_free, all_some, Asks, reaching, going_on, picks, picked, AnyRuns}
 use Rattle.cr_meaning_soundness.proofs.Lasting.{OnActed, Holds, held as held_run}
+use Rattle.cr_meaning_orders.proofs.Asking.{asks_part, at_length}
 
 module _ (p : Program) where
-  at_length : (before parts : List ℕ) (part : ℕ) → slice_get (before ++ part ∷ parts) (length before) ≡ Some part
-  at_length [] parts part = refl
-  at_length (x ∷ before) parts part = at_length before parts part
-
-  not_all : (before parts : List ℕ) (part : ℕ) → (length before == length (before ++ part ∷ parts)) ≡ false
-  not_all before parts part = ne_eqb (length before) (length (before ++ part ∷ parts)) (λ same. absurd (omega (arith, same, length-append before (part ∷ parts))))
-
-  way_free : (w : Work) (all : List ℕ) (done : List Answer) (part : ℕ) → is_free w ≡ true → slice_get all (length done) ≡ Some part → (length done == length all) ≡ false → next_by w all done ≡ Operand part
-  way_free (work.Call (Function parameters rest is_main)) all done part f e n =
-      ap (λ b. if b then Enter rest else operand (slice_get all (length done))) n ∙ ap (λ o. operand o) e
-  way_free (work.Call callee) all done part f e n = ap (λ o. operand o) e
-  way_free (work.Binary change) all done part f e n = ap (λ o. operand o) e
-  way_free (work.Compare relation kind) all done part f e n = ap (λ o. operand o) e
-  way_free (work.ComparePointers relation) all done part f e n = ap (λ o. operand o) e
-  way_free (work.Distance count) all done part f e n = ap (λ o. operand o) e
-  way_free (work.Subscript count) all done part f e n = ap (λ o. operand o) e
-  way_free (work.Assign form) all done part f e n = ap (λ o. operand o) e
-  way_free (work.Update change form volatile post) all done part f e n = ap (λ o. operand o) e
-  way_free (work.Initialise declared lines) all done part f e n = ap (λ o. operand o) e
-  way_free w all done part f e n = absurd (false≢true f)
-
-  asks_part : (number : ℕ) (op : Op) (done : List Answer) (before parts : List ℕ) (part : ℕ) → slice_get p.ops number ≡ Some op → is_free op.work ≡ true → op.parts ≡ before ++ part ∷ parts → length done ≡ length before
-      → body p (Operands number done) ≡ with_part number part done
-  unfolding body
-  asks_part number op done before parts part e free all count =
-      let F : List ℕ → Type 0 = λ x. slice_get x (length done) ≡ Some part in
-      let G : List ℕ → Type 0 = λ x. (length done == length x) ≡ false in
-      let at : slice_get op.parts (length done) ≡ Some part = subst F (sym all) (ap (λ n. slice_get (before ++ part ∷ parts) n) count ∙ at_length before parts part) in
-      let less : (length done == length op.parts) ≡ false = subst G (sym all) (ap (λ n. n == length (before ++ part ∷ parts)) count ∙ not_all before parts part) in
-      ap (λ o. at_op p number done o) e ∙ ap (λ w. on_way p number op done w) (way_free op.work op.parts done part free at less)
-
   abbrev Asking : Asked → World → Reply Answer World Halt → Type 0
   Asking g s r = (q : AnyMeaning) × (Asks p g q × AnyRuns p q s r)
 
@@ -166,7 +136,7 @@ module _ (p : Program) where
         all = all ∙ sym (append_assoc before (part ∷ []) rest);
         count = length-append done (answer ∷ []) ∙ (ap (λ n. n + 1) count ∙ sym (length-append before (part ∷ [])));
       }))) in
-      subst K (sym (asks_part number op done before rest part is free all count)) (
+      subst K (sym (asks_part p number op done before rest part is free all count)) (
         tt,
         (
           (λ answer u post.

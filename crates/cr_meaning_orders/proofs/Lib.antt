@@ -1,4 +1,5 @@
 pub mod Following
+pub mod Asking
 pub mod Orders
 pub mod Steady
 pub mod Whole

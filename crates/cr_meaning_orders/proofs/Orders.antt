@@ -487,47 +487,16 @@ module _ (p : Program) (steady : (g : Goal) → AreSteady (body p g))
       chain_cut : {part : ℕ} {parts : List ℕ} {done : List Answer} {s : World} {forest : Forest} (end : Halt) (inner : Forest) → Known (Reach part) s
           → Sees p (body p (Reach part)) s (ended end) inner → r ≡ ended end → forest ≡ tree part inner None bare → Chain number r (part ∷ parts) done s forest
 
-    at_length : (before parts : List ℕ) (part : ℕ) → slice_get (before ++ part ∷ parts) (length before) ≡ Some part
-    at_length [] parts part = refl
-    at_length (x ∷ before) parts part = at_length before parts part
-
-    not_all : (before parts : List ℕ) (part : ℕ) → (length before == length (before ++ part ∷ parts)) ≡ false
-    not_all before parts part = ne_eqb (length before) (length (before ++ part ∷ parts)) (λ same. absurd (omega (arith, same, length-append before (part ∷ parts))))
-
-    way_free : (w : Work) (all : List ℕ) (done : List Answer) (part : ℕ) → is_free w ≡ true → slice_get all (length done) ≡ Some part → (length done == length all) ≡ false → next_by w all done ≡ Operand part
-    way_free (work.Call (Function parameters rest is_main)) all done part f e n =
-        ap (λ b. if b then Enter rest else operand (slice_get all (length done))) n ∙ ap (λ o. operand o) e
-    way_free (work.Call callee) all done part f e n = ap (λ o. operand o) e
-    way_free (work.Binary change) all done part f e n = ap (λ o. operand o) e
-    way_free (work.Compare relation kind) all done part f e n = ap (λ o. operand o) e
-    way_free (work.ComparePointers relation) all done part f e n = ap (λ o. operand o) e
-    way_free (work.Distance count) all done part f e n = ap (λ o. operand o) e
-    way_free (work.Subscript count) all done part f e n = ap (λ o. operand o) e
-    way_free (work.Assign form) all done part f e n = ap (λ o. operand o) e
-    way_free (work.Update change form volatile post) all done part f e n = ap (λ o. operand o) e
-    way_free (work.Initialise declared lines) all done part f e n = ap (λ o. operand o) e
-    way_free w all done part f e n = absurd (false≢true f)
-
-    asks_part : (number : ℕ) (op : Op) (done : List Answer) (before parts : List ℕ) (part : ℕ) → slice_get p.ops number ≡ Some op → is_free op.work ≡ true → op.parts ≡ before ++ part ∷ parts → length done ≡ length before
-        → body p (Operands number done) ≡ with_part number part done
-    unfolding body
-    asks_part number op done before parts part e free all count =
-        let F : List ℕ → Type 0 = λ x. slice_get x (length done) ≡ Some part in
-        let G : List ℕ → Type 0 = λ x. (length done == length x) ≡ false in
-        let at : slice_get op.parts (length done) ≡ Some part = subst F (sym all) (ap (λ n. slice_get (before ++ part ∷ parts) n) count ∙ at_length before parts part) in
-        let less : (length done == length op.parts) ≡ false = subst G (sym all) (ap (λ n. n == length (before ++ part ∷ parts)) count ∙ not_all before parts part) in
-        ap (λ o. at_op p number done o) e ∙ ap (λ w. on_way p number op done w) (way_free op.work op.parts done part free at less)
-
     chain_of : (number : ℕ) (op : Op) (r : Reply Answer World Halt) (before parts : List ℕ) (done : List Answer) (s : World) (forest : Forest) → Known (Operands number done) s → slice_get p.ops number ≡ Some op → is_free op.work ≡ true
         → op.parts ≡ before ++ parts → length done ≡ length before → Sees p (body p (Operands number done)) s r forest → Chain number r parts done s forest
     chain_of number op r before [] done s forest know e free all count run = chain_end know run
     chain_of number op r before (part ∷ parts) done s forest know e free all count run =
         let F : Meaning → Type 0 = λ x. Sees p x s r forest in
         let L : Meaning → Type 0 = λ x. KnowsIn (Keeps (Operands number done) s know) x s in
-        let knows : KnowsIn (Keeps (Operands number done) s know) (with_part number part done) s = subst L (asks_part number op done before parts part e free all count) (knowing (Operands number done) s know) in
+        let knows : KnowsIn (Keeps (Operands number done) s know) (with_part number part done) s = subst L (asks_part p number op done before parts part e free all count) (knowing (Operands number done) s know) in
         by_call knows.0 (λ answer u more inner first next. chain_of number op r (before ++ part ∷ []) parts (done ++ answer ∷ []) u more (knows.1.0 answer u (kept_of (Reach part) s knows.0 (gave answer u) inner first)).0 e free (all ∙ sym (append_assoc before (part ∷ []) parts))
         (length-append done (answer ∷ []) ∙ (ap (λ n. n + 1) count ∙ sym (length-append before (part ∷ [])))) next)
-        (seen_back (body p) c_sight (Reach part) (λ answer. call (Operands number (done ++ answer ∷ [])) give) s r forest (subst F (asks_part number op done before parts part e free all count) run))
+        (seen_back (body p) c_sight (Reach part) (λ answer. call (Operands number (done ++ answer ∷ [])) give) s r forest (subst F (asks_part p number op done before parts part e free all count) run))
       where
         by_call : Known (Reach part) s → ((answer : Answer) (u : World) (more inner : Forest) → Sees p (body p (Reach part)) s (gave answer u) inner → Sees p (body p (Operands number (done ++ answer ∷ []))) u r more → Chain number r parts (done ++ answer ∷ []) u more)
             → SeenCall (body p) c_sight (Reach part) (λ answer. call (Operands number (done ++ answer ∷ [])) give) s r forest → Chain number r (part ∷ parts) done s forest

@@ -13,13 +13,6 @@ use Rattle.cr_meaning_seen.specs.Marks.{Mark, began, left, marks_of, left_by, No
 use Rattle.cr_meaning_seen.specs.Laws
 use Rattle.cr_meaning_seen.proofs.Seeing.{onto_bare}
 
-marks_onto : (one more : Forest) → marks_of (onto one more) ≡ marks_of one ++ marks_of more
-marks_onto bare more = refl
-marks_onto (tree number inner end rest) more =
-    ap (λ l. began number ∷ l) (ap (λ l. marks_of inner ++ (left_by number end ++ l)) (marks_onto rest more)
-    ∙ (ap (λ l. marks_of inner ++ l) (sym (append_assoc (left_by number end) (marks_of rest) (marks_of more)))
-    ∙ sym (append_assoc (marks_of inner) (left_by number end ++ marks_of rest) (marks_of more))))
-
 -- ---- what lasts along runs, with the replies
 
 abbrev OnActed : {V W H : Type 0} → (V → W → Type 0) → (H → Type 0) → Acted V W H → Type 0

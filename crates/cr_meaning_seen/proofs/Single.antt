@@ -18,9 +18,6 @@ module _ {G V W H T : Type 0} (body : G → Prog G V W H) (sight : Sight G V T) 
   gave_same : (v u : V) (t w : W) → (let a : Reply V W H = gave v t in a) ≡ gave u w → (v ≡ u) × (t ≡ w)
   gave_same v u t w e = (cc, cc)
 
-  ended_same : (h x : H) → (let a : Reply V W H = ended h in a) ≡ ended x → h ≡ x
-  ended_same h x e = cc
-
   pub one_sight : (p : Prog G V W H) (s : W) (r other : Reply V W H) (all found : T) → Seen body sight p s r all → Seen body sight p s other found → Same r other all found
   one_sight p s r other all found (seen_give e) (seen_give f) = (refl, e ∙ sym f)
   one_sight p s r other all found (seen_halt {h = h} e is) (seen_halt {h = x} f es) = (ap (λ (y : H). ended y) (halts_same h x (sym e ∙ f)), is ∙ sym es)

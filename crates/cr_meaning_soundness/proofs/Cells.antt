@@ -19,7 +19,7 @@ use Rattle.cr_memory.specs.Access.{some_object, is_null_or_end, is_literal, is_c
 use Rattle.cr_memory.specs.Continues.{IsAsBefore, Continues}
 use Rattle.cr_memory.proofs.Continuing.{entered_if_some, pointers-last}
 use Rattle.cr_memory.proofs.Overwriting.{length-overwritten}
-use Rattle.cr_memory.proofs.Reaching.{same_kinds, stride_fits, both_true}
+use Rattle.cr_memory.proofs.Reaching.{same_kinds, stride_fits, both_true, loaded_by}
 use Rattle.cr_memory.proofs.Storing.{writing-ok}
 use Rattle.cr_memory.proofs.Writing.{same_or_not}
 use Rattle.cr_meaning_soundness.specs.Sorts.{IsSound}
@@ -205,21 +205,6 @@ reached_cell memory (At object cell low high stride) h alive inside =
     record { live = o.0; lives = o.1; within = omega arith }
 
 -- ---- what is loaded
-
-loaded_by : (P : Cell → Type 0) (ended end held same unset : Bool) (cell : Cell)
-    → (ended ≡ false → end ≡ false → same ≡ true → P cell)
-    → IfOk (if ended then Err (Undefined ENDED)
-    else (if end then Err (Undefined NULL_OR_END)
-    else (if held then Err (Undefined ENDED)
-    else (if not same then Err (Left OTHER_TYPE)
-    else (if unset then Err (Undefined UNSET)
-    else Ok cell))))) P
-loaded_by P true end held same unset cell h = tt
-loaded_by P false true held same unset cell h = tt
-loaded_by P false false true same unset cell h = tt
-loaded_by P false false false false unset cell h = tt
-loaded_by P false false false true true cell h = tt
-loaded_by P false false false true false cell h = h refl refl refl
 
 pub loaded_holds : (memory : Memory) (at : Pointer) (kind : Scalar) → IsSound memory → IsPointer memory at → IfOk (load_of memory at kind) (Holds memory kind)
 loaded_holds memory at kind sound h =

@@ -125,7 +125,7 @@ flat_load-is most spans cells shape at kind room h =
     (λ live inside. let r = reached most spans cells shape at room h live inside in
     rw (r.cell, r.own, holds_ended-memory_of most spans cells shape (cell_or cells (index_of spans at))) refl)
 
-loaded_by : (P : Cell → Type 0) (ended end held same unset : Bool) (cell : Cell)
+pub loaded_by : (P : Cell → Type 0) (ended end held same unset : Bool) (cell : Cell)
     → (ended ≡ false → end ≡ false → same ≡ true → P cell)
     → IfOk (if ended then Err (Undefined ENDED)
     else (if end then Err (Undefined NULL_OR_END)

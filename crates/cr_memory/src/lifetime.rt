@@ -9,9 +9,6 @@ use crate::value::{Cell, Guard, Pointer, Scalar};
 use cr_sequence::Sequence;
 use std::alloc::{AllocError, Global};
 
-/// So many slots stay with the store, whether they are used or not.
-const KEPT: usize = 1024;
-
 /// An object of more cells takes room when they are set.
 const WIDE: usize = 1024;
 
@@ -364,16 +361,6 @@ pub(crate) fn enter(
             shapes.truncate(shape_count);
             Err(error)
         }
-    }
-}
-
-/// Gives memory back where most of it stands idle.
-pub(crate) fn give_back<T: Drop>(items: &mut Vec<T>)
-    ensures { items.new.items ≡ items.old.items }
-{
-    let count = items.len();
-    if items.capacity() / 4 > count && items.capacity() > KEPT {
-        items.shrink_to(count * 2);
     }
 }
 

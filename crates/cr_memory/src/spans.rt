@@ -3,8 +3,8 @@ ghost use Rattle.std.specs.List.{remove};
 ghost use Rattle.cr_memory.specs.Flat.{span_at, span_of, ended_span, moved_span, HasRoom, EndsAfterLast, IsNext, living_in};
 ghost use Rattle.cr_memory.specs.Spans.{living_at, IsRising, IsPlaceOf, Parts};
 
-use crate::lifetime::give_back;
 use crate::span::Span;
+use cr_sequence::give_back;
 use std::alloc::{AllocError, Global};
 use std::marker::Model;
 

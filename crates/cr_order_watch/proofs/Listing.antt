@@ -380,9 +380,6 @@ copy_sum p loud none copy foot forest empty reads writes sum = record {
   writes = λ cell. writes cell ∙ ap (λ (s : Sets). s.writes cell || (sets foot).writes cell) empty ∙ sum.writes cell;
 }
 
-pub same_some : {A : Type 0} (x y : A) (o : Option A) → Some x ≡ o → o ≡ Some y → x ≡ y
-same_some x y o e f = let both : Some x ≡ Some y = e ∙ f in cc
-
 get_there : {A : Type 0} (d : A) (xs : List A) (k : ℕ) → k < length xs → slice_get xs k ≡ Some (get_or xs k d)
 get_there d [] k room = absurd (omega (arith, room))
 get_there d (y ∷ ys) zero room = refl

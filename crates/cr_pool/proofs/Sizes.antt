@@ -14,11 +14,6 @@ use Rattle.cr_pool.specs.Trials.IsRejected.{not_smaller}
 pub one_size : (file : List ℕ) (m n : ℕ) → HasSize file m → HasSize file n → m ≡ n
 one_size file m n first second = first.is ∙ ap (size_of file) (one_list file first.tokens second.tokens first.tokenizes second.tokenizes) ∙ sym second.is
 
--- A file with a fault has no size.
-pub no_size : (file : List ℕ) (fault : TokenFault) (n : ℕ) → (fault ≡ NoMemory) ⊎ FirstTokenFault file fault → (fault ≡ NoMemory → ⊥) → HasSize file n → ⊥
-no_size file fault n (inl none) other has = other none
-no_size file fault n (inr it) other has = list_no_fault file has.tokens fault has.tokenizes it
-
 -- A smaller one has a size below the file's.
 pub good_is_smaller : (Lawful : List ℕ → Type 0) (file variant : List ℕ) (size n : ℕ) → HasSize file size → IsGood Lawful variant size n → IsSmaller variant file
 good_is_smaller Lawful file variant size n is good = record { new_size = n; old_size = size; new_is = good.has; old_is = is; less = good.less }

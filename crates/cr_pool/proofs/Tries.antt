@@ -188,9 +188,6 @@ module _ (e : Epoch) (right : BeginsRight e) (before now : Tally) (i : ℕ) (var
         let smaller : IsSmaller variant e.file = record { new_size = known.size; old_size = size; new_is = known.has; old_is = sized; less = known.less } in
         subst (λ f. IsSmaller f e.file × IsVerdict e before now f w) is (smaller, subst (IsVerdict e before now variant) same (noted_by v known.why))
 
-pub nothing_noted : (e : Epoch) (before now : Tally) (i : ℕ) → NoteIsSo e before now i None
-nothing_noted e before now i v came = cc
-
 -- Where an answer is no verdict, that it is noted nowhere says nothing.
 pub unnoted_answer : (e : Epoch) (i : ℕ) (answer : Answer) → verdict_of answer ≡ None → MayNoteNothing e i (trial_of answer)
 unnoted_answer e i Yes none = cc

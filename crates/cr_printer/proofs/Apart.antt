@@ -356,6 +356,3 @@ is_word kind s (inr e) i = let P : TokenKind → Type 0 = λ k. IsOneToken (piec
 pub is_quote : (kind : TokenKind) (s : List ℕ) → (kind ≡ Character) ⊎ (kind ≡ Text) → IsOneToken (piece kind s) → IsQuote (slice_index s 0)
 is_quote kind s (inl e) i = let P : TokenKind → Type 0 = λ k. IsOneToken (piece k s) in inl (alone (piece Character s) (subst P e i)).spells.open_quote
 is_quote kind s (inr e) i = let P : TokenKind → Type 0 = λ k. IsOneToken (piece k s) in inr (alone (piece Text s) (subst P e i)).spells.1.open_quote
-
-pub of_kind : (kind other : TokenKind) (s : List ℕ) → kind ≡ other → IsOneToken (piece kind s) → IsOneToken (piece other s)
-of_kind kind other s e i = let P : TokenKind → Type 0 = λ k. IsOneToken (piece k s) in subst P e i

@@ -19,13 +19,6 @@ pub record Stands (c : Chain) (from : List ℕ) (rows : List Accepted) (file : L
   pub leads : (last : List ℕ) (count : ℕ) → Follows c file turns rest last count → Follows c from 0 rows last count
   pub breaks : (k m : ℕ) → m + 1 ≡ k + number → BreaksAt c file turns rest k → BreaksAt c from 0 rows m
 
-pub begins : (c : Chain) (from : List ℕ) (rows : List Accepted) (size : ℕ) → HasSize from size → size ≤ 12582912 → Stands c from rows from size 0 1 rows
-begins c from rows size sized small = record {
-  sized = sized;
-  few = omega (arith, small);
-  counted = omega arith;
-  leads = λ last count it. it;
-  breaks = λ k m same it. subst (BreaksAt c from 0 rows) (omega (arith, same)) it;
 }
 
 module _ (c : Chain) (from : List ℕ) (rows : List Accepted) (file : List ℕ) (size turns number : ℕ) (one : Accepted) (more : List Accepted)

@@ -2,10 +2,10 @@
 //!
 //! Clauses compare plain data. They see a `Vec` as its items beside its block of memory, so a `Vec` of structs that hold a `Vec`
 //! isn't plain data to them, and a `Vec` of `Row`s is: they see a `Row` as the list of its items and nothing more.
-//! It promises what `Vec` promises of the list, and stands on std alone.
+//! It promises what `Vec` promises of the list, and what a column has at a number. It stands on std alone.
 #![tactic(auto)]
 
-ghost use Rattle.std.specs.Prelude.{◌≡◌, ◌<◌, [], ◌∷◌, ◌++◌, length, set, option_to_list, IfNone, OnOk, OnErr, IsTrue, ◌↔◌};
+ghost use Rattle.std.specs.Prelude.{◌≡◌, ◌<◌, [], ◌∷◌, ◌++◌, length, set, slice_index_or, option_to_list, IfNone, OnOk, OnErr, IsTrue, ◌↔◌};
 ghost use Rattle.std.specs.List.{AllZip};
 
 use std::alloc::{AllocError, Global};
@@ -115,5 +115,27 @@ impl<T: Clone> Clone for Row<T> {
         Ok(Row {
             items: self.items.clone()?,
         })
+    }
+}
+
+/// What a column has at a number; `nothing` beyond its end.
+pub fn entry_at<T: Copy>(column: &[T], at: usize, nothing: T) -> T
+    ensures { result ≡ slice_index_or column.now at nothing }
+{
+    if at < column.len() {
+        column[at]
+    } else {
+        nothing
+    }
+}
+
+/// The items of the row with a number; none beyond the last.
+pub fn row_at<T>(rows: &[Row<T>], at: usize) -> &[T]
+    ensures { result.now ≡ slice_index_or rows.now at [] }
+{
+    if at < rows.len() {
+        rows[at].as_slice()
+    } else {
+        &[]
     }
 }

@@ -4,15 +4,9 @@ use Rattle.std.specs.Str.{bytes_eq}
 use Rattle.std.specs.Map.{lookup}
 use Rattle.std.specs.declared.vec.Vec.{Vec}
 use Rattle.cr_tokens.specs.declared.token.Token.{Token}
+pub use Rattle.cr_syntax.specs.Numbered.{spelling_if, spelling_of}
 use Rattle.cr_scopes.specs.Looking.{or_else, or_given}
 use Rattle.cr_scopes.specs.declared.spelled.Known.{Known}
-
-abbrev pub spelling_if : List ℕ → Option Token → List ℕ
-spelling_if file None = []
-spelling_if file (Some token) = slice_range file token.start token.end
-
-abbrev pub spelling_of : List ℕ → List Token → ℕ → List ℕ
-spelling_of file tokens t = spelling_if file (slice_get tokens t)
 
 -- the first of so many tokens with a spelling
 abbrev pub first_spelled : List ℕ → List Token → List ℕ → ℕ → Option ℕ

@@ -11,7 +11,7 @@ use Rattle.cr_scopes_bindings.specs.declared.scoped.Binding.{Binding}
 use Rattle.cr_scopes_bindings.specs.declared.scoped.Binding.TheVariants.{Bound}
 use Rattle.cr_scopes_bindings.specs.Stacks.{entered, found_in, outside, stack_of}
 use Rattle.cr_scopes_bindings.specs.Visible.{is_named, latest, marked_by, seen_by, visible}
-use Rattle.cr_scopes_bindings.specs.Entities.{AreOf}
+use Rattle.cr_rows.specs.Columns.{AreOf}
 
 -- what is left when so many scopes end
 abbrev pub outsides : ℕ → List Binding → List Binding

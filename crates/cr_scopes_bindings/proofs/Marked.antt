@@ -5,7 +5,8 @@ use Rattle.std.proofs.Math.Seq.{get_or-append_seam}
 use Rattle.std.proofs.lemmas.Bool.{cases_lt, ltb-true}
 use Rattle.cr_scopes_bindings.specs.Last.{AreLast}
 use Rattle.cr_scopes.specs.declared.names.Names.{Names}
-use Rattle.cr_scopes_bindings.specs.Entities.{before_of, declared_entity, entity_at, entity_within, previous_of, AreOf}
+use Rattle.cr_scopes_bindings.specs.Entities.{before_of, declared_entity, entity_at, entity_within, previous_of}
+use Rattle.cr_rows.specs.Columns.{AreOf}
 use Rattle.cr_scopes_bindings.specs.Bindings.{entry_if}
 
 pub either : (a b : Bool) → (if a then true else b) ≡ (b || a)
@@ -13,20 +14,6 @@ either true true = refl
 either true false = refl
 either false true = refl
 either false false = refl
-
--- one entry more
-pub pushed : {A : Type 0} (f : ℕ → A) (nothing : A) (column : List A) (k : ℕ) (x : A) → AreOf f nothing k column → x ≡ f k
-    → AreOf f nothing (k + 1) (column ++ x ∷ [])
-pushed f nothing column k x h is = record {
-  count = let e = h.count in omega (arith, length-append column (x ∷ []));
-  each = λ t low. elim (cases_lt t k) [
-    | inl older ↦ get_or-append column (x ∷ []) nothing t (let e = h.count in omega (arith, older)) ∙ h.each t older
-    | inr newest ↦
-        let same : t ≡ k = omega arith in
-        let e : length column ≡ k = h.count in
-        rw same (subst (λ n. slice_index_or (column ++ x ∷ []) n nothing ≡ x) e (get_or-append_seam column x [] nothing) ∙ is)
-  ];
-}
 
 -- the last token before that declares the entity, by the column of the last ones
 within_by : (b : Bool) (names : Names) (token e : ℕ) (last : List (Option ℕ)) → nat_lt e (length names.entities) ≡ b

@@ -8,7 +8,8 @@ use Rattle.cr_scopes.specs.States.{name_in}
 use Rattle.cr_scopes.specs.Units.{unit_events}
 use Rattle.cr_scopes_bindings.specs.Spellings.{AreSpellings}
 use Rattle.cr_scopes_bindings.specs.Last.{last_with, AreLast}
-use Rattle.cr_scopes_bindings.specs.Entities.{declares, AreDeclaring, AreOf}
+use Rattle.cr_scopes_bindings.specs.Entities.{declares, AreDeclaring}
+use Rattle.cr_rows.specs.Columns.{AreOf}
 use Rattle.cr_scopes_bindings.specs.Visible.{AreVisible}
 use Rattle.cr_scopes_bindings.specs.Bindings.{AreBindings}
 use Rattle.cr_scopes_bindings.specs.declared.bindings.Bindings.{Bindings}

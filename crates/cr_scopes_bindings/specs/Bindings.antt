@@ -10,7 +10,8 @@ use Rattle.cr_scopes.specs.Units.{unit_events}
 use Rattle.cr_scopes_bindings.specs.Spellings.{AreSpellings}
 use Rattle.cr_scopes_bindings.specs.Last.{AreLast}
 use Rattle.cr_scopes_bindings.specs.Nodes.{name_at, tag_at}
-use Rattle.cr_scopes_bindings.specs.Entities.{entity_at, content_entity, first_of, previous_of, AreDeclaring, AreOf}
+use Rattle.cr_scopes_bindings.specs.Entities.{entity_at, content_entity, first_of, previous_of, AreDeclaring}
+use Rattle.cr_rows.specs.Columns.{AreOf}
 use Rattle.cr_scopes_bindings.specs.Visible.{AreVisible}
 use Rattle.cr_scopes_bindings.specs.declared.bindings.Bindings.{Bindings}
 use Rattle.cr_scopes_bindings.specs.declared.bindings.TagBinding.{TagBinding}

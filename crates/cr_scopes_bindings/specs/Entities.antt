@@ -40,11 +40,6 @@ before_of names token (Some entity) = last_with (declared_entity names) token en
 abbrev pub previous_of : Names → ℕ → Option ℕ
 previous_of names token = before_of names token (entity_at names token)
 
--- so many entries of a column are what a function gives
-pub record AreOf {A : Type 0} (f : ℕ → A) (nothing : A) (bound : ℕ) (column : List A) : Type 0 where
-  pub count : length column ≡ bound
-  pub each : (k : ℕ) → k < bound → slice_index_or column k nothing ≡ f k
-
 -- the first token that declares the entity
 abbrev pub first_in : List ℕ → Option ℕ
 first_in [] = None

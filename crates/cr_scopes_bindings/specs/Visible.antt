@@ -7,7 +7,7 @@ use Rattle.cr_scopes.specs.Looking.{stands_in}
 use Rattle.cr_scopes.specs.Resolved.{past_of}
 use Rattle.cr_scopes_bindings.specs.declared.scoped.Binding.{Binding}
 use Rattle.cr_scopes_bindings.specs.Stacks.{found_in}
-use Rattle.cr_scopes_bindings.specs.Entities.{AreOf}
+use Rattle.cr_rows.specs.Columns.{AreOf}
 
 -- Looking back over the events before a place, the latest first, and over so many scopes that ended: the latest declaration of an ordinary
 -- identifier of this name, in whatever scope is open there.

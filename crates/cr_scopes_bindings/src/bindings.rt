@@ -1,6 +1,7 @@
 ghost use Rattle.std.specs.Prelude.{◌≡◌, None, IfOk, length};
 ghost use Rattle.cr_scopes_bindings.specs.Bindings.{declared_name, earlier_node, entry_if, first_node, is_declarer, tag_for, tag_of, visible_node, AreBindings};
-ghost use Rattle.cr_scopes_bindings.specs.Entities.{content_entity, previous_of, AreDeclaring, AreOf};
+ghost use Rattle.cr_scopes_bindings.specs.Entities.{content_entity, previous_of, AreDeclaring};
+ghost use Rattle.cr_rows.specs.Columns.{AreOf};
 ghost use Rattle.cr_scopes_bindings.specs.Last.{AreLast};
 ghost use Rattle.cr_scopes_bindings.specs.Nodes.{name_at as name_at_node, tag_at as tag_at_node};
 ghost use Rattle.cr_scopes_bindings.specs.Spellings.{AreSpellings};
@@ -9,11 +10,11 @@ ghost use Rattle.cr_scopes.specs.States.{name_in};
 ghost use Rattle.cr_scopes.specs.Units.{unit_events};
 ghost use Rattle.cr_syntax.specs.Words.{AreSpans};
 
-use crate::entities::{declaring, entity_at, first_of, is_marked, previous};
-use crate::last::link_at;
+use crate::entities::{declaring, entity_at, first_of, previous};
+use crate::last::entry;
 use crate::nodes::{contents, declarers, name_at, specifiers, tag_at};
 use crate::visible::visible;
-use cr_rows::Row;
+use cr_rows::{Row, entry_at};
 use cr_scopes::{Names, names_of};
 use cr_syntax::{Node, Unit};
 use cr_tokens::Token;
@@ -49,16 +50,10 @@ pub struct TagBinding {
     pub declares: bool,
 }
 
-fn entry(column: &Row<Option<u32>>, number: Option<u32>) -> Option<u32>
+fn entry_of(column: &Row<Option<u32>>, number: Option<u32>) -> Option<u32>
     ensures { result ≡ entry_if column.now number }
 {
-    link_at(column.as_slice(), number? as usize)
-}
-
-fn entry_at(column: &Row<Option<u32>>, number: Option<usize>) -> Option<u32>
-    ensures { result ≡ entry_if column.now number }
-{
-    link_at(column.as_slice(), number?)
+    entry_at(column.as_slice(), number? as usize, None)
 }
 
 // The number of each token's spelling, and what is visible there.
@@ -131,9 +126,9 @@ impl Bindings {
     pub fn visible_at(&self, token: u32) -> Option<u32>
         ensures { result ≡ visible_node self.now token }
     {
-        entry(
+        entry_of(
             &self.declarers,
-            link_at(self.visible.as_slice(), token as usize),
+            entry_at(self.visible.as_slice(), token as usize, None),
         )
     }
 
@@ -141,9 +136,9 @@ impl Bindings {
     pub fn earlier_at(&self, token: u32) -> Option<u32>
         ensures { result ≡ earlier_node self.now token }
     {
-        entry(
+        entry_of(
             &self.declarers,
-            link_at(self.previous.as_slice(), token as usize),
+            entry_at(self.previous.as_slice(), token as usize, None),
         )
     }
 
@@ -162,7 +157,7 @@ impl Bindings {
     fn is_declarer(&self, token: u32, node: u32) -> bool
         ensures { result ≡ is_declarer self.now token node }
     {
-        match link_at(self.declarers.as_slice(), token as usize) {
+        match entry_at(self.declarers.as_slice(), token as usize, None) {
             Some(declarer) => declarer == node,
             None => false,
         }
@@ -173,7 +168,7 @@ impl Bindings {
         ensures { result ≡ first_node self.now names.now token }
     {
         let entity = entity_at(names, token as usize);
-        entry_at(&self.declarers, first_of(names, entity))
+        entry(self.declarers.as_slice(), first_of(names, entity))
     }
 
     fn tag_for(&self, names: &Names, token: usize) -> TagBinding
@@ -181,9 +176,9 @@ impl Bindings {
     {
         let entity = entity_at(names, token);
         TagBinding {
-            first: entry_at(&self.specifiers, first_of(names, entity)),
-            content: entry_at(&self.contents, entity),
-            declares: is_marked(self.declaring.as_slice(), token),
+            first: entry(self.specifiers.as_slice(), first_of(names, entity)),
+            content: entry(self.contents.as_slice(), entity),
+            declares: entry_at(self.declaring.as_slice(), token, false),
         }
     }
 

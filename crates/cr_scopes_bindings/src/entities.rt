@@ -1,10 +1,11 @@
 // The tokens that declare entities.
 ghost use Rattle.std.specs.Prelude.{◌≡◌, ◌<◌, ◌==◌, ℕ, true, false, None, IfOk, length, slice_index_or, slice_set, if◌then◌else◌};
 ghost use Rattle.std.specs.List.{list_any};
-ghost use Rattle.cr_scopes_bindings.specs.Bindings.{entry_if};
-ghost use Rattle.cr_scopes_bindings.specs.Entities.{declared_entity, entity_at as entity_of_token, entity_within, first_in, first_of, previous_of, AreDeclaring, AreOf};
+ghost use Rattle.cr_scopes_bindings.specs.Entities.{declared_entity, entity_at as entity_of_token, entity_within, first_in, first_of, previous_of, AreDeclaring};
+ghost use Rattle.cr_rows.specs.Columns.{AreOf};
 
-use crate::last::{link_at, put};
+use crate::last::{entry, put};
+use cr_rows::entry_at;
 use cr_scopes::{Entity, Names};
 use cr_syntax::number_of;
 use std::alloc::{AllocError, Global};
@@ -28,7 +29,7 @@ pub(crate) fn entity_at(names: &Names, token: usize) -> Option<usize>
 {
     entity_within(
         names.entities.len(),
-        link_at(names.of_token.as_slice(), token),
+        entry_at(names.of_token.as_slice(), token, None),
     )
 }
 
@@ -62,22 +63,6 @@ pub(crate) fn declaring(alloc: Global, names: &Names) -> Result<Vec<bool>, Alloc
     Ok(column)
 }
 
-/// Whether a column of marks has one at a number.
-pub(crate) fn is_marked(column: &[bool], at: usize) -> bool
-    ensures { result ≡ slice_index_or column.now at false }
-{
-    at < column.len() && column[at]
-}
-
-fn last_of(last: &[Option<u32>], entity: Option<usize>) -> Option<u32>
-    ensures { result ≡ entry_if last.now entity }
-{
-    match entity {
-        Some(entity) => link_at(last, entity),
-        None => None,
-    }
-}
-
 fn if_it_declares(declares: bool, entity: Option<usize>) -> Option<usize>
     ensures { result ≡ (if declares then entity else None) }
 {
@@ -85,7 +70,7 @@ fn if_it_declares(declares: bool, entity: Option<usize>) -> Option<usize>
 }
 
 /// For each token the one before it that declares the same.
-#[tactic(auto, using(crate::proofs::Marked::pushed, crate::proofs::Marked::before_is))]
+#[tactic(auto, using(cr_rows::proofs::Columns::one_more, crate::proofs::Marked::before_is))]
 pub(crate) fn previous(
     alloc: Global,
     names: &Names,
@@ -99,10 +84,10 @@ pub(crate) fn previous(
     for token in 0..names.of_token.len() {
         let number = number_of(token)?;
         let entity = entity_at(names, token);
-        previous.push(last_of(&last, entity))?;
+        previous.push(entry(&last, entity))?;
         put(
             &mut last,
-            if_it_declares(is_marked(declaring, token), entity),
+            if_it_declares(entry_at(declaring, token, false), entity),
             number,
         );
     }

@@ -1,6 +1,9 @@
 // Columns of the last numbers with a key.
 ghost use Rattle.std.specs.Prelude.{◌≡◌, ◌<◌, ℕ, Some, None, length, slice_index_or, slice_set, if◌then◌else◌};
 ghost use Rattle.cr_scopes.specs.Resolved.{is_number};
+ghost use Rattle.cr_scopes_bindings.specs.Bindings.{entry_if};
+
+use cr_rows::entry_at;
 
 /// A number has this key from now on, if it has any.
 pub(crate) fn put(column: &mut Vec<Option<u32>>, key: Option<usize>, number: u32)
@@ -22,9 +25,9 @@ pub fn set_link(column: &mut Vec<Option<u32>>, at: usize, entry: Option<u32>)
     }
 }
 
-/// What a column has at a number; nothing beyond its end.
-pub fn link_at(column: &[Option<u32>], at: usize) -> Option<u32>
-    ensures { result ≡ slice_index_or column.now at None }
+/// What a column has at a number that may not be there.
+pub(crate) fn entry(column: &[Option<u32>], number: Option<usize>) -> Option<u32>
+    ensures { result ≡ entry_if column.now number }
 {
-    if at < column.len() { column[at] } else { None }
+    entry_at(column, number?, None)
 }

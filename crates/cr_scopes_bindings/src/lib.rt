@@ -15,5 +15,5 @@ mod scoped;
 mod visible;
 
 pub use bindings::{Bindings, TagBinding};
-pub use last::{link_at, set_link};
+pub use last::set_link;
 pub use nodes::name_at;

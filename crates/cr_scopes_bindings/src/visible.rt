@@ -7,9 +7,10 @@ ghost use Rattle.cr_scopes.specs.States.{name_in};
 ghost use Rattle.cr_scopes.specs.Units.{unit_events};
 ghost use Rattle.cr_scopes.specs.declared.scope.Space.TheVariants.{Ordinary};
 
-use crate::entities::{is_marked, mark};
+use crate::entities::mark;
 use crate::last::set_link;
 use crate::scoped::Scoped;
+use cr_rows::entry_at;
 use cr_scopes_events::{Event, Role, events};
 use cr_syntax::Unit;
 use std::alloc::{AllocError, Global};
@@ -17,11 +18,7 @@ use std::alloc::{AllocError, Global};
 fn spelling_at(spellings: &[u32], token: u32) -> u32
     ensures { result ≡ name_in spellings.now token }
 {
-    if (token as usize) < spellings.len() {
-        spellings[token as usize]
-    } else {
-        token
-    }
+    entry_at(spellings, token as usize, token)
 }
 
 // Whether an ordinary identifier is declared.
@@ -39,7 +36,7 @@ fn is_declaration(role: Role) -> bool
 fn find(scoped: &Scoped, named: &[bool], visible: &mut Vec<Option<u32>>, token: u32, name: u32)
     ensures { visible.new.items ≡ (if slice_index_or named.now token false then visible.old.items else slice_set visible.old.items token (found_in scoped.now name)) }
 {
-    if !is_marked(named, token as usize) {
+    if !entry_at(named, token as usize, false) {
         set_link(visible, token as usize, scoped.find(name));
     }
 }

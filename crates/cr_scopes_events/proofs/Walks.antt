@@ -43,16 +43,6 @@ pub put_off_none : (at : ℕ → List Event) (bound : ℕ) (step : Step) (left :
     → to_come at left ≡ events_by (before [] bound at) step ++ to_come at left
 put_off_none at bound step left h = ap (λ es. es ++ to_come at left) (sym (not_below_is at bound step h))
 
--- a step is moved from the row to what is left
-pub moved : (f : Step → List Event) (steps : List Step) (step : Step) (old new whole : List Event)
-    → flat_map f (steps ++ step ∷ []) ++ old ≡ whole → new ≡ f step ++ old → flat_map f steps ++ new ≡ whole
-moved f steps step old new whole h e =
-    ap (λ x. flat_map f steps ++ x) e
-    ∙ sym (append_assoc (flat_map f steps) (f step) old)
-    ∙ ap (λ x. flat_map f steps ++ x ++ old) (sym (append-nil (f step)))
-    ∙ ap (λ x. x ++ old) (sym (flat_map-append f steps (step ∷ [])))
-    ∙ h
-
 -- at a part the walk comes to the node and does what its script says
 pub inside_is : (tokens : List Token) (nodes : List Node) (i : ℕ) (old new : List Event) (events : List Event)
     → new ≡ flat_map (events_by (before [] i (events_at tokens nodes))) (script_of tokens nodes i) ++ old

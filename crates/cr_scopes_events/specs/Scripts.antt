@@ -6,6 +6,7 @@ use Rattle.cr_tokens.specs.declared.token.TokenKind.TheVariants.{Identifier}
 use Rattle.cr_syntax.specs.declared.node.Kind.{Kind}
 use Rattle.cr_syntax.specs.declared.node.Kind.TheVariants as kind
 use Rattle.cr_syntax.specs.declared.node.Node.{Node}
+pub use Rattle.cr_syntax.specs.Numbered.{kind_if, kind_at, parts_if, parts_at}
 use Rattle.cr_scopes_events.specs.declared.event.Role.{Role}
 use Rattle.cr_scopes_events.specs.declared.event.Role.TheVariants as role
 use Rattle.cr_scopes_events.specs.declared.event.Event.{Event}
@@ -23,26 +24,12 @@ use Rattle.cr_scopes_events.specs.Declarators.{declarator_of}
 
 -- Nodes by number.
 
-abbrev pub kind_if : Option Node → Option Kind
-kind_if None = None
-kind_if (Some node) = Some node.kind
-
-abbrev pub kind_at : List Node → ℕ → Option Kind
-kind_at nodes i = kind_if (slice_get nodes i)
-
 abbrev pub first_if : Option Node → Option ℕ
 first_if None = None
 first_if (Some node) = Some node.first
 
 abbrev pub first_at : List Node → ℕ → Option ℕ
 first_at nodes i = first_if (slice_get nodes i)
-
-abbrev pub parts_if : Option Node → List ℕ
-parts_if None = []
-parts_if (Some node) = node.parts
-
-abbrev pub parts_at : List Node → ℕ → List ℕ
-parts_at nodes i = parts_if (slice_get nodes i)
 
 -- Steps.
 

@@ -18,4 +18,5 @@ mod walk;
 pub use declarator::{Declarator, Derivation, declared_by};
 pub use event::{Event, Role};
 pub use laws::nodes_are_ruled;
+pub use steps::first_at;
 pub use walk::events;

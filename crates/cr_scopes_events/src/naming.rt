@@ -5,8 +5,8 @@ ghost use Rattle.cr_scopes_events.specs.Scripts.{with_word, storage_of, role_by,
 
 use crate::declarator::{Declarator, Derivation, declared_by};
 use crate::event::{Event, Role, Step};
-use crate::steps::{behind, first, goes_inside, happens, inside, kind_at, parts_at};
-use cr_syntax::{Kind, Node};
+use crate::steps::{behind, first, goes_inside, happens, inside};
+use cr_syntax::{Kind, Node, kind_at, parts_at};
 use std::alloc::AllocError;
 
 /// What the specifiers of a declaration say of its names.
@@ -32,8 +32,8 @@ pub fn storage_of(nodes: &[Node], parts: &[u32]) -> Storage
 {
     match parts {
         [] => Storage::NoWord,
-        [specifiers, ..] => match kind_at(nodes, *specifiers) {
-            Some(Kind::Specifiers) => with_words(nodes, parts_at(nodes, *specifiers)),
+        [specifiers, ..] => match kind_at(nodes, *specifiers as usize) {
+            Some(Kind::Specifiers) => with_words(nodes, parts_at(nodes, *specifiers as usize)),
             other => with_word(Storage::NoWord, other),
         },
     }
@@ -44,7 +44,7 @@ fn with_words(nodes: &[Node], words: &[u32]) -> Storage
 {
     let mut storage = Storage::NoWord;
     for word in words {
-        storage = with_word(storage, kind_at(nodes, *word));
+        storage = with_word(storage, kind_at(nodes, *word as usize));
     }
     storage
 }
@@ -135,8 +135,13 @@ fn declares(
 ) -> Result<(), AllocError>
     ensures { OnOk result (steps.new.items ≡ steps.old.items ++ declares naming nodes.now part (kind_at nodes.now part)) }
 {
-    match kind_at(nodes, part) {
-        Some(Kind::InitDeclarator) => initialised(steps, naming, nodes, parts_at(nodes, part)),
+    match kind_at(nodes, part as usize) {
+        Some(Kind::InitDeclarator) => initialised(
+            steps,
+            naming,
+            nodes,
+            parts_at(nodes, part as usize),
+        ),
         _ => declarator_in(steps, naming, nodes, part),
     }
 }

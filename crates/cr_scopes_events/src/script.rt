@@ -8,10 +8,8 @@ ghost use Rattle.cr_scopes_events.specs.Scripts.{kind_at, inside, block, is_iden
 use crate::declarator::{Derivation, declared_by};
 use crate::event::{Event, Role, Step};
 use crate::naming::{Naming, declaration_in, storage_of};
-use crate::steps::{
-    behind, block, first, first_at, goes_inside, happens, inside, kind_at, parts_at,
-};
-use cr_syntax::{Kind, Node};
+use crate::steps::{behind, block, first, first_at, goes_inside, happens, inside};
+use cr_syntax::{Kind, Node, kind_at, parts_at};
 use cr_tokens::{Token, TokenKind};
 use std::alloc::AllocError;
 
@@ -149,7 +147,12 @@ fn members(steps: &mut Vec<Step>, nodes: &[Node], at: u32, parts: &[u32]) -> Res
     ensures { OnOk result (steps.new.items ≡ steps.old.items ++ flat_map (members_of nodes.now at) parts.now) }
 {
     for part in parts {
-        declaration_in(steps, Naming::Members(at), nodes, parts_at(nodes, *part))?;
+        declaration_in(
+            steps,
+            Naming::Members(at),
+            nodes,
+            parts_at(nodes, *part as usize),
+        )?;
     }
     Ok(())
 }
@@ -172,8 +175,8 @@ fn declaration(steps: &mut Vec<Step>, nodes: &[Node], parts: &[u32]) -> Result<(
 fn lone_specifiers(steps: &mut Vec<Step>, nodes: &[Node], part: u32) -> Result<(), AllocError>
     ensures { OnOk result (steps.new.items ≡ steps.old.items ++ lone_specifiers nodes.now part (kind_at nodes.now part)) }
 {
-    match kind_at(nodes, part) {
-        Some(Kind::StructTag) => lone_tag(steps, first_at(nodes, part)),
+    match kind_at(nodes, part as usize) {
+        Some(Kind::StructTag) => lone_tag(steps, first_at(nodes, part as usize)),
         _ => goes_inside(steps, part),
     }
 }
@@ -212,7 +215,7 @@ fn list_of(nodes: &[Node], next: Derivation) -> &[u32]
     ensures { result.now ≡ list_of nodes.now next }
 {
     match next {
-        Derivation::Function(list) => behind(parts_at(nodes, list), 1),
+        Derivation::Function(list) => behind(parts_at(nodes, list as usize), 1),
         _ => &[],
     }
 }
@@ -221,7 +224,7 @@ fn bodies(steps: &mut Vec<Step>, nodes: &[Node], parts: &[u32]) -> Result<(), Al
     ensures { OnOk result (steps.new.items ≡ steps.old.items ++ flat_map (items_of nodes.now) parts.now) }
 {
     for part in parts {
-        inside(steps, parts_at(nodes, *part))?;
+        inside(steps, parts_at(nodes, *part as usize))?;
     }
     Ok(())
 }

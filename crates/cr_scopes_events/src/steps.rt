@@ -1,42 +1,20 @@
 ghost use Rattle.std.specs.Prelude.{◌≡◌, ◌++◌, ◌∷◌, [], OnOk, take, drop};
 ghost use Rattle.cr_scopes_events.specs.declared.event.Event.TheVariants.{Opens, Closes};
 ghost use Rattle.cr_scopes_events.specs.declared.event.Step.TheVariants.{Happens, Inside};
-ghost use Rattle.cr_scopes_events.specs.Scripts.{kind_at, first_at, parts_at, inside, in_scopes, in_scope, block};
+ghost use Rattle.cr_scopes_events.specs.Scripts.{first_at, inside, in_scopes, in_scope, block};
 
 use crate::event::{Event, Step};
-use cr_syntax::{Kind, Node};
+use cr_syntax::Node;
 use std::alloc::AllocError;
 
-/// The kind of the node of a number.
-pub fn kind_at(nodes: &[Node], at: u32) -> Option<Kind>
-    ensures { result ≡ kind_at nodes.now at }
-{
-    if (at as usize) < nodes.len() {
-        Some(nodes[at as usize].kind)
-    } else {
-        None
-    }
-}
-
 /// The first token of the node of a number.
-pub fn first_at(nodes: &[Node], at: u32) -> Option<u32>
+pub fn first_at(nodes: &[Node], at: usize) -> Option<u32>
     ensures { result ≡ first_at nodes.now at }
 {
-    if (at as usize) < nodes.len() {
-        Some(nodes[at as usize].first)
+    if at < nodes.len() {
+        Some(nodes[at].first)
     } else {
         None
-    }
-}
-
-/// The parts of the node of a number.
-pub fn parts_at(nodes: &[Node], at: u32) -> &[u32]
-    ensures { result.now ≡ parts_at nodes.now at }
-{
-    if (at as usize) < nodes.len() {
-        nodes[at as usize].parts.as_slice()
-    } else {
-        &[]
     }
 }
 

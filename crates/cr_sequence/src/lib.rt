@@ -7,6 +7,6 @@ mod sequence;
 mod stretch;
 mod times;
 
-pub use sequence::{Part, Sequence};
+pub use sequence::{Part, Sequence, give_back};
 pub use stretch::Stretch;
 pub use times::Times;

@@ -120,14 +120,22 @@ fn push_in<T: Copy>(part: &mut Part<T>, item: T) -> Result<(), AllocError>
     Ok(())
 }
 
-// The first items alone. Memory is given back where most of it stands idle.
+/// Gives memory back where most of it stands idle.
+pub fn give_back<T: Drop>(items: &mut Vec<T>)
+    ensures { items.new.items ≡ items.old.items }
+{
+    let count = items.len();
+    if items.capacity() / 4 > count && items.capacity() > KEPT {
+        items.shrink_to(count * 2);
+    }
+}
+
+// The first items alone.
 fn cut_items<T: Copy>(items: &mut Vec<T>, count: usize)
     ensures { items.new.items ≡ take count items.old.items }
 {
     items.truncate(count);
-    if items.capacity() / 4 > count && items.capacity() > KEPT {
-        items.shrink_to(count * 2);
-    }
+    give_back(items);
 }
 
 fn cut_in<T: Copy>(part: &mut Part<T>, count: usize)

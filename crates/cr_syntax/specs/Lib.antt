@@ -1,4 +1,5 @@
 pub mod Words
+pub mod Numbered
 pub mod Trees
 pub mod Scopes
 pub mod Symbols

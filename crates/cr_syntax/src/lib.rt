@@ -11,6 +11,7 @@
 mod ctype;
 mod laws;
 mod node;
+mod numbered;
 mod part;
 mod scopes;
 mod shape;
@@ -22,6 +23,7 @@ pub use laws::{
     latest_declaration_decides, reading_is_spelling, table_is_grammar, tokens_are_spans,
 };
 pub use node::{Kind, Node, number_of};
+pub use numbered::{first_token_at, kind_at, parts_at, spelling_at};
 pub use part::{Context, MOST_LEVELS, Part};
 pub use scopes::{OpenScopes, Scope, TypeName, begin, enter, is_type};
 pub use shape::{FRESH, ends_open, first, is_bare, past_node, past_token, rest_of};

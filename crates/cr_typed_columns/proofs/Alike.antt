@@ -11,7 +11,7 @@ use Rattle.cr_check_types.proofs.Shared.{same_table}
 use Rattle.cr_typed.specs.declared.typed.Typed.{Typed}
 use Rattle.cr_typed.specs.declared.typed.Put.{Put}
 use Rattle.cr_check_initialisers.specs.Plans.{Entry, put, excess}
-use Rattle.cr_check_initialisers.proofs.Rows.{beyond}
+use Rattle.cr_check_types.proofs.Tables.{beyond}
 use Rattle.cr_typed_columns.specs.declared.checked.CheckedColumns.{CheckedColumns}
 use Rattle.cr_typed_columns.specs.Rows.{listed, levels_upto, put_entry, put_type, put_row, AreRowsOf, AreAllRows, AreAllPuts}
 use Rattle.cr_typed_columns.specs.Names.{ref_of, duration_of, named_of}

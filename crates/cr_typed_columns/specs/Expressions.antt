@@ -5,6 +5,7 @@ use Rattle.std.specs.List.{list_any}
 use Rattle.cr_syntax.specs.declared.node.Kind.{Kind}
 use Rattle.cr_syntax.specs.declared.node.Kind.TheVariants as kind
 use Rattle.cr_syntax.specs.declared.node.Node.{Node}
+pub use Rattle.cr_syntax.specs.Numbered.{last_if}
 use Rattle.cr_scopes_events.specs.Scripts.{kind_at}
 use Rattle.cr_check_constants.specs.declared.constant.Constant.{Constant}
 use Rattle.cr_check_constants.specs.declared.constant.Constant.TheVariants.{NotConstant, Undefined, Value}
@@ -85,10 +86,6 @@ structure_by k type = None
 abbrev pub number_of_name : ℕ → List Member → ℕ
 number_of_name name [] = 0
 number_of_name name (member ∷ members) = if member.name == name then 0 else suc (number_of_name name members)
-
-abbrev pub last_if : Option Node → ℕ
-last_if None = 0
-last_if (Some node) = node.last
 
 -- its name is the last token
 abbrev pub chosen_of : List Node → CheckedColumns → ℕ → ℕ

@@ -13,10 +13,9 @@ use crate::functions::{main_of, parameters};
 use crate::lasts::{Found, declarations_of};
 use crate::naming::{durations, named, refs};
 use crate::plans::{members, plans};
-use crate::reading::entry_at;
 use crate::rows::rows_once;
 use cr_check_types::{Layout, NOTHING, Table};
-use cr_rows::Row;
+use cr_rows::{Row, entry_at};
 use cr_syntax::{Node, Unit};
 use cr_typed::{Duration, Put, Typed};
 use std::alloc::{AllocError, Global};
@@ -207,7 +206,7 @@ fn types_of(
 fn layout_at(checked: &CheckedColumns, at: usize) -> Layout
     ensures { result ≡ layout_at_lem checked.now at }
 {
-    entry_at(checked.layouts, NOTHING, at)
+    entry_at(checked.layouts, at, NOTHING)
 }
 
 // The layout of each structure.

@@ -7,7 +7,8 @@ ghost use Rattle.cr_typed_columns.specs.Levels.{above as type_above, wrapped, fl
 ghost use Rattle.cr_typed_columns.specs.Rows.{AreKept};
 
 use cr_check_types::{Shape, Table};
-use cr_scopes_bindings::{link_at, set_link};
+use cr_rows::entry_at;
+use cr_scopes_bindings::set_link;
 use cr_syntax::CType;
 use std::alloc::{AllocError, Global};
 
@@ -68,7 +69,7 @@ pub(crate) fn copied_once(
     ensures levels { OnOk result (IsWithAll table.old (levels_of (type_at from.now row)) table.new) }
     ensures kept { OnOk result (AreKept from.now table.new known.new.items) }
 {
-    match link_at(known, row as usize) {
+    match entry_at(known, row as usize, None) {
         Some(made) => Ok(made),
         None => {
             let made = copied_on(alloc, table, from, known, row)?;
@@ -93,7 +94,7 @@ fn copied_on(
     ensures levels { OnOk result (IsWithAll table.old (levels_of (type_at from.now row)) table.new) }
 {
     match step_of(shape_at(from, row)) {
-        Step::Above(level, below) => match link_at(known, below as usize) {
+        Step::Above(level, below) => match entry_at(known, below as usize, None) {
             Some(base) => raised_on(table, from, row, level, below, base),
             None => copied(alloc, table, from, row),
         },
@@ -123,7 +124,7 @@ fn raised_on(
 }
 
 /// The shape of a row; that of no type where there is no such row.
-#[tactic(auto, using(cr_check_initialisers::proofs::Rows::beyond))]
+#[tactic(auto, using(cr_check_types::proofs::Tables::beyond))]
 pub(crate) fn shape_at(table: &Table, row: u32) -> Shape
     ensures is { type_at table.now row ≡ type_of (type_at table.now) result }
     ensures below { room_of result ≤ row }

@@ -10,15 +10,15 @@ ghost use Rattle.cr_typed_columns.specs.Expressions.{seen_of, type_of_node, valu
 
 use crate::checked::CheckedColumns;
 use crate::copying::shape_at;
-use crate::reading::{entry, entry_at, kind_at, kind_of, part_at, part_of};
+use crate::reading::{entry, kind_of, part_at, part_of};
 use crate::rows::Named;
 use cr_check_constants::Constant;
 use cr_check_expressions::{Form, Member, NO_FACT, form_of, is_valued};
 use cr_check_initialisers::Line;
 use cr_check_operands::Fact;
 use cr_check_types::Table;
-use cr_rows::Row;
-use cr_syntax::{CType, Kind, Node};
+use cr_rows::{Row, entry_at, row_at};
+use cr_syntax::{CType, Kind, Node, kind_at};
 use std::alloc::{AllocError, Global};
 
 fn fact_of(checked: &CheckedColumns, node: Option<u32>) -> Fact
@@ -30,7 +30,7 @@ fn fact_of(checked: &CheckedColumns, node: Option<u32>) -> Fact
 fn fact_at(checked: &CheckedColumns, at: usize) -> Fact
     ensures { seen_at checked.now.table.now result ≡ seen_of checked.now (Some at) }
 {
-    entry_at(checked.facts, NO_FACT, at)
+    entry_at(checked.facts, at, NO_FACT)
 }
 
 fn node_type(checked: &CheckedColumns, at: usize) -> Named
@@ -164,10 +164,10 @@ fn valued_of(nodes: &[Node], checked: &CheckedColumns, marks: &[bool], at: usize
     requires { slice_index_or marks.now at false ≡ is_filling checked.now at }
     ensures { result ≡ valued_of_lem nodes.now checked.now at }
 {
-    let above = entry_at(checked.above, None, at);
+    let above = entry_at(checked.above, at, None);
     let first = is_part(at, part_of(nodes, above, 0));
     is_valued(form_if(kind_of(nodes, above)), first, fact_at(checked, at))
-        && !entry_at(marks, false, at)
+        && !entry_at(marks, at, false)
 }
 
 /// Which expressions are places that are used as values.
@@ -239,26 +239,15 @@ fn members_of<'a>(members: &'a [Row<Member>], structure: Option<u32>) -> &'a [Me
     ensures { result.now ≡ entry_of members.now [] structure }
 {
     match structure {
-        Some(structure) => members_at(members, structure as usize),
+        Some(structure) => row_at(members, structure as usize),
         None => &[],
-    }
-}
-
-/// The members of a structure.
-pub(crate) fn members_at<'a>(members: &'a [Row<Member>], structure: usize) -> &'a [Member]
-    ensures { result.now ≡ slice_index_or members.now structure [] }
-{
-    if structure < members.len() {
-        members[structure].as_slice()
-    } else {
-        &[]
     }
 }
 
 fn chosen_of(nodes: &[Node], checked: &CheckedColumns, at: usize) -> usize
     ensures { result ≡ chosen_of_lem nodes.now checked.now at }
 {
-    let name = entry_at(checked.spellings, 0, last_at(nodes, at) as usize);
+    let name = entry_at(checked.spellings, last_at(nodes, at) as usize, 0);
     let row = fact_of(checked, part_at(nodes, at, 0)).row;
     let structure = structure_by(checked.table, kind_at(nodes, at), row);
     number_of_name(name, members_of(checked.members, structure))

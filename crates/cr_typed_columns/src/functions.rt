@@ -2,7 +2,6 @@
 ghost use Rattle.std.specs.Prelude.{◌≡◌, ◌++◌, ◌<◌, ℕ, [], ◌∷◌, Some, None, IfOk, OnOk, length, option_to_list, if◌then◌else◌};
 ghost use Rattle.std.specs.List.{flat_map};
 ghost use Rattle.cr_syntax.specs.Words.{AreSpans};
-ghost use Rattle.cr_check_expressions.specs.Known.{spelling_of};
 ghost use Rattle.cr_typed_columns.specs.Reading.{parsed_of};
 ghost use Rattle.cr_typed_columns.specs.Entities.{AreFound};
 ghost use Rattle.cr_typed_columns.specs.Rows.{listed};
@@ -10,10 +9,10 @@ ghost use Rattle.cr_typed_columns.specs.Functions.{listed_by, parameter_nodes as
 
 use crate::checked::CheckedColumns;
 use crate::lasts::{Found, declared_token, is_definition, name_node};
-use crate::reading::{entry, kind_at, kind_of, part_at, part_of, parts_at};
+use crate::reading::{entry, kind_of, part_at, part_of};
 use cr_check_declarators::BARE;
 use cr_rows::Row;
-use cr_syntax::{Kind, Node, Unit};
+use cr_syntax::{Kind, Node, Unit, kind_at, parts_at, spelling_at};
 use cr_tokens::Token;
 use std::alloc::{AllocError, Global};
 
@@ -137,23 +136,12 @@ pub(crate) fn parameters(
 
 // ---- main
 
-fn spelling<'a>(file: &'a [u8], tokens: &'a [Token], token: usize) -> &'a [u8]
-    requires { AreSpans file.now tokens.now }
-    ensures { result.now ≡ spelling_of file.now tokens.now token }
-{
-    if token < tokens.len() {
-        tokens[token].spelling(file)
-    } else {
-        &[]
-    }
-}
-
 fn is_spelled_main(file: &[u8], tokens: &[Token], token: Option<u32>) -> bool
     requires { AreSpans file.now tokens.now }
     ensures { result ≡ is_spelled_main file.now tokens.now token }
 {
     match token {
-        Some(token) => spelling(file, tokens, token as usize) == b"main".as_slice(),
+        Some(token) => spelling_at(file, tokens, token as usize) == b"main".as_slice(),
         None => false,
     }
 }

@@ -7,13 +7,13 @@ ghost use Rattle.cr_typed_columns.specs.Reading.{parsed_of};
 ghost use Rattle.cr_typed_columns.specs.Entities.{is_name, named_token as named_token_lem, last_of, name_node as name_node_lem, entity_of as entity_of_lem, first_declared as first_declared_lem, last_declared as last_declared_lem, is_definition, declared_token as declared_token_lem, defined_entity as defined_entity_lem, definition_of as definition_of_lem, whole_of as whole_of_lem, declared_of as declared_of_lem, is_object, is_declaration, is_extern, is_extern_class, is_open, keeps, kept_entity as kept_entity_lem, is_kept as is_kept_lem, AreFound};
 
 use crate::checked::CheckedColumns;
-use crate::reading::{entry, first_at, kind_at, kind_of, part_at, part_of};
+use crate::reading::{entry, kind_of, part_at, part_of};
 use cr_check_declarators::{Class, Storage, UNSAID};
 use cr_check_expressions::Declared;
 use cr_rows::Row;
 use cr_scopes::{Entity, Names};
-use cr_scopes_events::declared_by;
-use cr_syntax::{Kind, Node, Unit, number_of};
+use cr_scopes_events::{declared_by, first_at};
+use cr_syntax::{Kind, Node, Unit, kind_at, number_of};
 use std::alloc::{AllocError, Global};
 
 /// The last nodes of each kind that declare.

@@ -12,12 +12,13 @@ use crate::lasts::{
     Found, declared_of, definition_of, entity_if, entity_of, first_declared, is_kept,
     last_declared, whole_of,
 };
-use crate::reading::{entry, entry_at, first_at, kind_at, kind_of, part_at};
+use crate::reading::{entry, kind_of, part_at};
 use crate::rows::Named;
 use cr_check_enclosing::{Around, OUTERMOST, Place};
 use cr_check_expressions::Declared;
-use cr_rows::Row;
-use cr_syntax::{Kind, Node, Unit, number_of};
+use cr_rows::{Row, entry_at};
+use cr_scopes_events::first_at;
+use cr_syntax::{Kind, Node, Unit, kind_at, number_of};
 use cr_typed::Duration;
 use std::alloc::{AllocError, Global};
 
@@ -57,7 +58,7 @@ fn ref_of(unit: &Unit, checked: &CheckedColumns, found: &Found, at: usize) -> Op
 {
     let nodes = unit.nodes.as_slice();
     if is_goto(kind_at(nodes, at)) {
-        entry_at(checked.labels, None, at)
+        entry_at(checked.labels, at, None)
     } else {
         let entity = entity_if(checked.names, mentioned_token(nodes, at));
         first_declared(unit, checked, found, entity)

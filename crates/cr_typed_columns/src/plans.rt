@@ -7,14 +7,12 @@ ghost use Rattle.cr_typed_columns.specs.Columns.{is_structure, member_type, memb
 
 use crate::checked::CheckedColumns;
 use crate::copying::copied;
-use crate::expressions::members_at;
-use crate::reading::kind_at;
 use crate::rows::{Named, rows};
 use cr_check_expressions::Member;
-use cr_check_initialisers::{Line, puts};
+use cr_check_initialisers::puts;
 use cr_check_types::Table;
-use cr_rows::Row;
-use cr_syntax::{Kind, Node};
+use cr_rows::{Row, row_at};
+use cr_syntax::{Kind, Node, kind_at};
 use cr_typed::Put;
 use std::alloc::{AllocError, Global};
 
@@ -56,7 +54,7 @@ fn member_rows(
     ensures levels { OnOk result (IsWithAll table.old (levels_of_all (member_types nodes.now checked.now at)) table.new) }
 {
     if is_structure(kind_at(nodes, at)) {
-        let types = types_of(alloc, checked, members_at(checked.members, at))?;
+        let types = types_of(alloc, checked, row_at(checked.members, at))?;
         rows(alloc, table, checked.table, &types)
     } else {
         rows(alloc, table, checked.table, &[])
@@ -83,16 +81,6 @@ pub(crate) fn members(
 }
 
 // ---- initialisers
-
-fn lines_at<'a>(checked: &'a CheckedColumns, at: usize) -> &'a [Line]
-    ensures { result.now ≡ slice_index_or checked.now.lines.now at [] }
-{
-    if at < checked.lines.len() {
-        checked.lines[at].as_slice()
-    } else {
-        &[]
-    }
-}
 
 fn copied_put(alloc: Global, table: &mut Table, from: &Table, put: Put) -> Result<Put, AllocError>
     ensures made { IfOk result (λ p. (p.row < length table.new) × (put_entry table.new p ≡ put_entry from.now put)) }
@@ -131,7 +119,7 @@ fn plan(
     ensures grows { OnOk result (Grows table.old table.new) }
     ensures levels { OnOk result (IsWithAll table.old (levels_of_all (plan_types checked.now at)) table.new) }
 {
-    let given = puts(alloc, lines_at(checked, at))?;
+    let given = puts(alloc, row_at(checked.lines, at))?;
     copied_puts(alloc, table, checked.table, given.as_slice())
 }
 

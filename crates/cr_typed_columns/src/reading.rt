@@ -1,42 +1,10 @@
 // Nodes and entries that may not be there.
-ghost use Rattle.std.specs.Prelude.{◌≡◌, slice_get, slice_index_or, None, false};
-ghost use Rattle.cr_scopes_events.specs.Scripts.{kind_at as kind_at_lem, first_at as first_at_lem, parts_at as parts_at_lem};
+ghost use Rattle.std.specs.Prelude.{◌≡◌, slice_get};
+ghost use Rattle.cr_syntax.specs.Numbered.{parts_at as parts_at_lem};
 ghost use Rattle.cr_typed_columns.specs.Reading.{kind_of as kind_of_lem, part_of as part_of_lem, entry_of};
 
-use cr_syntax::{Kind, Node};
-
-/// The kind of a node.
-pub(crate) fn kind_at(nodes: &[Node], at: usize) -> Option<Kind>
-    ensures { result ≡ kind_at_lem nodes.now at }
-{
-    if at < nodes.len() {
-        Some(nodes[at].kind)
-    } else {
-        None
-    }
-}
-
-/// The first token of a node.
-pub(crate) fn first_at(nodes: &[Node], at: usize) -> Option<u32>
-    ensures { result ≡ first_at_lem nodes.now at }
-{
-    if at < nodes.len() {
-        Some(nodes[at].first)
-    } else {
-        None
-    }
-}
-
-/// The parts of a node.
-pub(crate) fn parts_at(nodes: &[Node], at: usize) -> &[u32]
-    ensures { result.now ≡ parts_at_lem nodes.now at }
-{
-    if at < nodes.len() {
-        nodes[at].parts.as_slice()
-    } else {
-        &[]
-    }
-}
+use cr_rows::entry_at;
+use cr_syntax::{Kind, Node, kind_at, parts_at};
 
 /// A part of a node.
 pub(crate) fn part_at(nodes: &[Node], at: usize, number: usize) -> Option<u32>
@@ -75,18 +43,7 @@ pub(crate) fn entry<T: Copy>(column: &[T], nothing: T, number: Option<u32>) -> T
     ensures { result ≡ entry_of column.now nothing number }
 {
     match number {
-        Some(number) => entry_at(column, nothing, number as usize),
+        Some(number) => entry_at(column, number as usize, nothing),
         None => nothing,
-    }
-}
-
-/// The entry at a number in a column; nothing beyond its end.
-pub(crate) fn entry_at<T: Copy>(column: &[T], nothing: T, number: usize) -> T
-    ensures { result ≡ slice_index_or column.now number nothing }
-{
-    if number < column.len() {
-        column[number]
-    } else {
-        nothing
     }
 }

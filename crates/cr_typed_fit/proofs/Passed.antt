@@ -11,7 +11,7 @@ use Rattle.cr_typed.specs.declared.typed.Typed.{Typed}
 use Rattle.cr_typed.specs.Typed.{IsBefore, row_cells, MOST_CELLS}
 use Rattle.cr_typed_fit.specs.declared.extents.Extent.{Extent}
 use Rattle.cr_typed_fit.specs.Fits.{HasRoom, IsFitting, AreExtents, AreSuited, is_small, is_before, structure_within, extent_of, no_extent, cells_in}
-use Rattle.cr_typed_fit.proofs.Taken.{beyond}
+use Rattle.cr_check_types.proofs.Tables.{beyond}
 
 -- ---- tests of all items
 

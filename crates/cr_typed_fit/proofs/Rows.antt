@@ -6,22 +6,16 @@ use Rattle.std.proofs.lemmas.Bool.{cases_lt}
 use Rattle.std.proofs.lemmas.Option.{slice_get_within}
 use Rattle.cr_check_types.specs.declared.layout.Layout.{Layout}
 use Rattle.cr_check_types.specs.declared.shape.Shape.{Shape}
+use Rattle.cr_rows.proofs.Columns.{one_more}
 use Rattle.cr_check_types.specs.Types.{type_at}
 use Rattle.cr_typed_fit.specs.declared.extents.Extent.{Extent}
 use Rattle.cr_typed_fit.specs.Fits.{AreExtents, AreMembers, AreSuited, extent_of, no_extent}
 
 pub extents_more : (shapes : List Shape) (layouts : List Layout) (at : ℕ) (extents : List Extent) (x : Extent) → AreExtents shapes layouts at extents
     → x ≡ extent_of layouts (type_at shapes at) → AreExtents shapes layouts (at + 1) (extents ++ x ∷ [])
-extents_more shapes layouts at extents x h is = record {
-  count = let e = h.count in omega (arith, length-append extents (x ∷ []));
-  each = λ row low. elim (cases_lt row at) [
-    | inl older ↦ get_or-append extents (x ∷ []) no_extent row (let e = h.count in omega (arith, older)) ∙ h.each row older
-    | inr newest ↦
-        let same : row ≡ at = omega arith in
-        let e : length extents ≡ at = h.count in
-        rw same (subst (λ n. slice_index_or (extents ++ x ∷ []) n no_extent ≡ x) e (get_or-append_seam extents x [] no_extent) ∙ is)
-  ];
-}
+extents_more shapes layouts at extents x h is =
+    let more = one_more (λ row. extent_of layouts (type_at shapes row)) no_extent extents at x (record { count = h.count; each = h.each }) is in
+    record { count = more.count; each = more.each }
 
 -- the members of one node more
 pub members_more : (extents : List Extent) (members : List (List ℕ)) (at : ℕ) (rows : List ℕ)

@@ -6,7 +6,7 @@ ghost use Rattle.cr_check_types.specs.Layouts.{fitted};
 ghost use Rattle.cr_typed_fit.specs.Fits.{AreExtents, HasRoom, AreMembers, AreSuited, extent_of, no_extent, is_small, is_before, cells_in, times_over};
 
 use cr_check_types::{Layout, Shape, Table};
-use cr_rows::Row;
+use cr_rows::{Row, entry_at};
 use cr_syntax::CType;
 use cr_typed::Typed;
 use std::alloc::{AllocError, Global};
@@ -74,12 +74,7 @@ fn repeated(one: Extent, count: u64) -> Extent
 fn taken_by(extents: &[Extent], row: u32) -> Extent
     ensures { result ≡ slice_index_or extents.now row no_extent }
 {
-    let at = row as usize;
-    if at < extents.len() {
-        extents[at]
-    } else {
-        NO_EXTENT
-    }
+    entry_at(extents, row as usize, NO_EXTENT)
 }
 
 /// Whether types have the cells and structures that the constraints let them have.

@@ -46,16 +46,6 @@ put_there at item rows new row low is of = record {
   ];
 }
 
-pub one_grouped : (number_by : ℕ → Option ℕ) (items : List ℕ) (rows new : List (List ℕ)) (k item : ℕ) → k < length items → item ≡ slice_index_or items k item
-    → AreGrouped number_by (take k items) rows → IsPut (number_by item) item rows new → AreGrouped number_by (take (k + 1) items) new
-one_grouped number_by items rows new k item low is before put = λ entity within.
-    let there : entity < length rows = omega (arith, within, put.whole) in
-    let p : ℕ → Bool = λ i. same_number (Some entity) (number_by i) in
-    put.each entity there
-    ∙ ap (λ r. r ++ (if p item then item ∷ [] else [])) (before entity there)
-    ∙ ap (λ i. filter p (take k items) ++ (if p i then i ∷ [] else [])) is
-    ∙ sym (filter_more p items k item low)
-
 -- what holds of each is kept when it is picked out again
 twice : (p : ℕ → Bool) (xs : List ℕ) → filter p (filter p xs) ≡ filter p xs
 twice p [] = refl

@@ -172,7 +172,3 @@ module _ (ts : List Lexeme) (nodes : List Node) (f : PartsAreBelow nodes) where
   saved kind.FunctionDefinition ps i j b h = let one = definition_saves ps (definition ps i j b h) in omega (arith, one)
   saved kind.MemberDeclaration ps i j b h = let all = members_save ps i j b h in omega (arith, all)
   saved _ ps i j b h = few_own _ (saves ps)
-
--- a level pays where each node's edits and what it saves are paid for
-pub Saving : List Node → (ℕ → ℕ) → Type 0
-Saving nodes w = (k : ℕ) (n : Node) → slice_get nodes k ≡ Some n → w k + credit_of n ≤ own (side_of n.kind) + sum_by (credit nodes) n.parts

@@ -1,6 +1,6 @@
 use Rattle.std.proofs.Common.{refl, arith}
 use Rattle.cr_check_initialisers.specs.Known.{known_of}
-use Rattle.cr_check_initialisers.proofs.Rows.{beyond}
+use Rattle.cr_check_types.proofs.Tables.{beyond}
 use Rattle.cr_check_initialisers.proofs.source.cells_at.Goals as goal
 
 pub returns-then-row-len : goal.returns-then-row-len

@@ -2,7 +2,8 @@ use Rattle.std.proofs.Common.{ℕ, List, Option, None, slice_index_or, ap, sym, 
 use Rattle.std.proofs.Math.ListN.{get_or-replicate}
 use Rattle.cr_check_labels.specs.Gotos.{goto_at}
 use Rattle.cr_check_labels.specs.Labelled.{scene_of}
-use Rattle.cr_check_labels.proofs.Columns.{none_named, one_more, only_none}
+use Rattle.cr_check_labels.proofs.Columns.{none_named, only_none}
+use Rattle.cr_rows.proofs.Columns.{one_more}
 use Rattle.cr_check_labels.proofs.gotos.labels.Goals as goal
 
 pub loop-at-preserved : goal.loop-at-preserved

@@ -1,5 +1,5 @@
 use Rattle.std.proofs.Common.{◌||◌, ℕ, false, slice_index_or, rules}
-use Rattle.cr_check_labels.proofs.Columns.{one_more}
+use Rattle.cr_rows.proofs.Columns.{one_more}
 use Rattle.cr_check_labels.proofs.repeating.any_of.Goals as goal
 
 pub loop-at-preserved : goal.loop-at-preserved

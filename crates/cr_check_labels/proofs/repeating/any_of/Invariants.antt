@@ -1,5 +1,5 @@
 use Rattle.std.proofs.Common.{◌||◌, ℕ, false, slice_index_or}
-use Rattle.cr_check_labels.specs.Columns.{AreOf}
+use Rattle.cr_rows.specs.Columns.{AreOf}
 use Rattle.cr_check_labels.proofs.repeating.any_of.Given as goal
 
 abbrev pub invariant-loop-at : goal.invariant-loop-at

@@ -1,7 +1,7 @@
 use Rattle.std.proofs.Common.{None}
 use Rattle.cr_check_labels.specs.Labelled.{scene_of}
 use Rattle.cr_check_labels.specs.Marks.{default_at}
-use Rattle.cr_check_labels.proofs.Columns.{one_more}
+use Rattle.cr_rows.proofs.Columns.{one_more}
 use Rattle.cr_check_labels.proofs.repeating.default_marks.Goals as goal
 
 pub loop-at-preserved : goal.loop-at-preserved

@@ -1,5 +1,5 @@
 use Rattle.std.proofs.Common.{None}
-use Rattle.cr_check_labels.specs.Columns.{AreOf}
+use Rattle.cr_rows.specs.Columns.{AreOf}
 use Rattle.cr_check_labels.specs.Labelled.{scene_of}
 use Rattle.cr_check_labels.specs.Marks.{label_at}
 use Rattle.cr_check_labels.proofs.repeating.name_marks.Given as goal

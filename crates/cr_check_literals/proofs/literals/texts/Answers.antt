@@ -1,5 +1,5 @@
 use Rattle.std.proofs.Common.{[]}
-use Rattle.cr_check_labels.proofs.Columns.{one_more}
+use Rattle.cr_rows.proofs.Columns.{one_more}
 use Rattle.cr_check_literals.specs.Texts.{text_at}
 use Rattle.cr_check_literals.proofs.literals.texts.Goals as goal
 

@@ -1,5 +1,5 @@
 use Rattle.std.proofs.Common.{[]}
-use Rattle.cr_check_labels.specs.Columns.{AreOf}
+use Rattle.cr_rows.specs.Columns.{AreOf}
 use Rattle.cr_check_literals.specs.Texts.{text_at}
 use Rattle.cr_check_literals.proofs.literals.texts.Given as goal
 

@@ -1,6 +1,6 @@
 use Rattle.std.proofs.Common.{None, length, sym, subst, ◌∙◌}
 use Rattle.cr_scopes_bindings.specs.Bindings.{AreBindings}
-use Rattle.cr_scopes_bindings.specs.Entities.{AreOf}
+use Rattle.cr_rows.specs.Columns.{AreOf}
 use Rattle.cr_holding.proofs.Kept.{kept}
 use Rattle.cr_check_surroundings.specs.Links.{AreLinks}
 use Rattle.cr_check_surroundings.specs.Named.{tag_of}

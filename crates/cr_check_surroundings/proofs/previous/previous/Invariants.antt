@@ -1,5 +1,5 @@
 use Rattle.std.proofs.Common.{None, length}
-use Rattle.cr_scopes_bindings.specs.Entities.{AreOf}
+use Rattle.cr_rows.specs.Columns.{AreOf}
 use Rattle.cr_check_surroundings.specs.Previous.{before_of}
 use Rattle.cr_check_surroundings.proofs.previous.previous.Given as goal
 

@@ -1,5 +1,5 @@
 use Rattle.std.proofs.Common.{None}
-use Rattle.cr_scopes_bindings.specs.Entities.{AreOf}
+use Rattle.cr_rows.specs.Columns.{AreOf}
 use Rattle.cr_check_surroundings.specs.Named.{tag_of}
 use Rattle.cr_check_surroundings.proofs.tagged.tags.Given as goal
 

@@ -1,6 +1,7 @@
 use Rattle.std.proofs.Common.{length, None}
 use Rattle.cr_scopes_bindings.specs.Last.{AreLast}
-use Rattle.cr_scopes_bindings.specs.Entities.{declared_entity, previous_of, AreOf}
+use Rattle.cr_scopes_bindings.specs.Entities.{declared_entity, previous_of}
+use Rattle.cr_rows.specs.Columns.{AreOf}
 use Rattle.cr_scopes_bindings.proofs.entities.previous.Given as goal
 
 abbrev pub invariant-loop-token : goal.invariant-loop-token

@@ -9,12 +9,12 @@ copied_on-requires c = subst (AreKept c.args.from.now c.args.table.now) (sym c.d
 pub returns-in-Some-clause-made : goal.returns-in-Some-clause-made
 returns-in-Some-clause-made c =
     kept_is c.args.from.now c.args.table.now c.args.known.now.items c.args.row c.in-Some.made c.requires
-    (sym (ap (λ xs. slice_index_or xs c.args.row None) c.deref.ensures.value) ∙ sym c.link_at.ensures ∙ c.in-Some.is)
+    (sym (ap (λ xs. slice_index_or xs c.args.row None) c.deref.ensures.value) ∙ sym c.entry_at.ensures ∙ c.in-Some.is)
 
 pub returns-in-Some-clause-levels : goal.returns-in-Some-clause-levels
 returns-in-Some-clause-levels c =
     kept_levels c.args.from.now c.args.table.now c.args.known.now.items c.args.row c.in-Some.made c.requires
-    (sym (ap (λ xs. slice_index_or xs c.args.row None) c.deref.ensures.value) ∙ sym c.link_at.ensures ∙ c.in-Some.is)
+    (sym (ap (λ xs. slice_index_or xs c.args.row None) c.deref.ensures.value) ∙ sym c.entry_at.ensures ∙ c.in-Some.is)
 
 pub returns-in_ok-made-in-None-clause-kept : goal.returns-in_ok-made-in-None-clause-kept
 returns-in_ok-made-in-None-clause-kept c =
