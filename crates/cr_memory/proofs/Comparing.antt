@@ -74,9 +74,12 @@ flat_equality-is most spans cells shape Null Null room p q l r = refl
 flat_equality-is most spans cells shape Null (At object cell low high stride) room p q l r = refl
 flat_equality-is most spans cells shape (At object cell low high stride) Null room p q l r = refl
 flat_equality-is most spans cells shape (At object cell low high stride) (At object' cell' low' high' stride') room p q l r =
-    rw (live_count most spans cells shape object room (alive_from _ l), live_count most spans cells shape object' room (alive_from _ r),
-        literal-is most spans cells shape (At object cell low high stride) room p l,
-        literal-is most spans cells shape (At object' cell' low' high' stride') room q r) refl
+    rw (
+      live_count most spans cells shape object room (alive_from _ l),
+      live_count most spans cells shape object' room (alive_from _ r),
+      literal-is most spans cells shape (At object cell low high stride) room p l,
+      literal-is most spans cells shape (At object' cell' low' high' stride') room q r,
+    ) refl
 
 -- ---- a moved pointer stays among whole elements
 

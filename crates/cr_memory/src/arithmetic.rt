@@ -5,8 +5,8 @@ ghost use Rattle.cr_memory.specs.Flat.{span_at, ended_in, PointerIn, HasSubscrip
 use crate::flat::{has_ended, is_in_literal};
 use crate::spans::Spans;
 use crate::value::{
-    Cell, DIFFERENT_ARRAYS, DIFFERENT_OBJECTS, END_COMPARED, ENDED, Guard, Pointer, SUM_OUTSIDE, Scalar,
-    Trap,
+    Cell, DIFFERENT_ARRAYS, DIFFERENT_OBJECTS, END_COMPARED, ENDED, Guard, Pointer, SUM_OUTSIDE,
+    Scalar, Trap,
 };
 use cr_sequence::Sequence;
 
