@@ -215,7 +215,7 @@ equality_cased count own (At object cell low high stride) (At object' cell' low'
     (cased_if (is_in_literal own (At object cell low high stride) && is_in_literal own (At object' cell' low' high' stride')) (Left END_COMPARED) (Ok false) tt tt))
 
 pub same_cased : (memory : Memory) (left right : Pointer) → Cased (same_of memory left right)
-same_cased memory left right = cased_if (has_ended memory left || has_ended memory right) (Undefined ENDED) _ tt (equality_cased _ _ left right)
+same_cased memory left right = cased_if (has_ended memory left || has_ended memory right) (Undefined ENDED) _ tt (equality_cased _ (shape_at memory) left right)
 
 pub related_cased : (memory : Memory) (relation : Relation) (left right : Pointer) → Cased (related memory relation left right)
 related_cased memory Less left right = cased_all (less_of memory left right) _ (less_cased memory left right) (λ b. tt)
