@@ -9,6 +9,7 @@ use Rattle.cr_ints.specs.declared.end.IntEnd.TheVariants as end
 use Rattle.cr_memory.specs.declared.value.Pointer.{Pointer}
 use Rattle.cr_memory.specs.declared.value.Pointer.TheVariants.{Null, At}
 use Rattle.cr_memory.specs.declared.value.Scalar.{Scalar}
+use Rattle.cr_memory.specs.declared.value.Guard.{Guard}
 use Rattle.cr_memory.specs.declared.value.Scalar.TheVariants as scalar
 use Rattle.cr_memory.specs.declared.value.Cell.{Cell}
 use Rattle.cr_memory.specs.declared.value.Cell.TheVariants as cell
@@ -18,7 +19,7 @@ use Rattle.cr_memory.specs.declared.value.TheConstants.{NULL_OR_END, ENDED, END_
 use Rattle.cr_memory.specs.Kind.{is_same}
 use Rattle.cr_memory.specs.Memory.{Memory, Holds, AllHold, IsPointer, has_ended}
 use Rattle.cr_memory.specs.Access.{is_null_or_end, is_literal, is_constant, is_unset, holds_ended, number_of, cell_of, cell_at, shape_at, shape_run_at, have_kinds, with_cells, writing, reach_of, load_of, cells_of}
-use Rattle.cr_memory.specs.Pointers.{moved_by, difference_of, differ_of, order_of, less_of, equality_by, same_of}
+use Rattle.cr_memory.specs.Pointers.{moved_by, difference_of, differ_of, are_told, order_of, less_of, is_in_literal, equality_by, same_of}
 use Rattle.cr_meaning.specs.World.{Program, then_by}
 use Rattle.cr_meaning.specs.Values.{kinds_in, cells_in, value_in, asked, converted, is_null, exactly, computed, signed_by, misfits, moved, moved_either, changed, pointing, as_pointer, with_pointers, holding, related, misfit_value, if_both_fit, distance}
 use Rattle.cr_meaning.specs.Work.{plainly, giving, used, at_place, inner_of, taken, followed, stored, assigned, loaded, did_update, updated, is_nothing, is_void, logical, conditional, cast, integer, comparison, address, passed}
@@ -199,20 +200,22 @@ pub order_cased : (left right : Pointer) → Cased (order_of left right)
 order_cased Null Null = tt
 order_cased Null (At object cell low high stride) = tt
 order_cased (At object cell low high stride) Null = tt
-order_cased (At object cell low high stride) (At object' cell' low' high' stride') = cased_either (object == object') _ _ tt tt
+order_cased (At object cell low high stride) (At object' cell' low' high' stride') = cased_either (object == object' && are_told cell low high cell' low' high') _ _ tt tt
 
 pub less_cased : (memory : Memory) (left right : Pointer) → Cased (less_of memory left right)
 less_cased memory left right = cased_if (has_ended memory left || has_ended memory right) (Undefined ENDED) _ tt (order_cased left right)
 
-pub equality_cased : (count : ℕ → ℕ) (left right : Pointer) → Cased (equality_by count left right)
-equality_cased count Null Null = tt
-equality_cased count Null (At object cell low high stride) = tt
-equality_cased count (At object cell low high stride) Null = tt
-equality_cased count (At object cell low high stride) (At object' cell' low' high' stride') = cased_either (object == object') (Ok (cell == cell')) _ tt
-    (cased_if ((count object == cell) || (count object' == cell')) (Left END_COMPARED) (Ok false) tt tt)
+pub equality_cased : (count : ℕ → ℕ) (own : Pointer → Scalar × Guard) (left right : Pointer) → Cased (equality_by count own left right)
+equality_cased count own Null Null = tt
+equality_cased count own Null (At object cell low high stride) = tt
+equality_cased count own (At object cell low high stride) Null = tt
+equality_cased count own (At object cell low high stride) (At object' cell' low' high' stride') = cased_either (object == object') _ _
+    (cased_either (not (cell == cell')) (Ok false) _ tt (cased_either (are_told cell low high cell' low' high') (Ok true) (Err (Left END_COMPARED)) tt tt))
+    (cased_if ((count object == cell) || (count object' == cell')) (Left END_COMPARED) _ tt
+    (cased_if (is_in_literal own (At object cell low high stride) && is_in_literal own (At object' cell' low' high' stride')) (Left END_COMPARED) (Ok false) tt tt))
 
 pub same_cased : (memory : Memory) (left right : Pointer) → Cased (same_of memory left right)
-same_cased memory left right = cased_if (has_ended memory left || has_ended memory right) (Undefined ENDED) _ tt (equality_cased _ left right)
+same_cased memory left right = cased_if (has_ended memory left || has_ended memory right) (Undefined ENDED) _ tt (equality_cased _ (shape_at memory) left right)
 
 pub related_cased : (memory : Memory) (relation : Relation) (left right : Pointer) → Cased (related memory relation left right)
 related_cased memory Less left right = cased_all (less_of memory left right) _ (less_cased memory left right) (λ b. tt)

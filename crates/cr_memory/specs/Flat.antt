@@ -156,8 +156,8 @@ flat_copy spans cells shape from to count =
 abbrev pub flat_cells : List Span → List Cell → List (Scalar × Guard) → Pointer → List Scalar → Result (List Cell) Trap
 flat_cells spans cells shape = cells_by (ended_in spans) (run_in spans cells) (run_in spans shape)
 
-abbrev pub flat_equality : List Span → Pointer → Pointer → Result Bool Trap
-flat_equality spans = equality_by (λ object. (span_at spans object).count)
+abbrev pub flat_equality : List Span → List (Scalar × Guard) → Pointer → Pointer → Result Bool Trap
+flat_equality spans shape = equality_by (λ object. (span_at spans object).count) (own_in spans shape)
 
 -- the items begin with others
 abbrev pub BeginsWith : {X : Type 0} → List X → List X → Type 0
