@@ -172,8 +172,8 @@ AsksFew settings k old new before after status = (it : HasReducedBound (at k) (�
     → (status ≡ 0) ⊎ (status ≡ 7) → AsksAtMost (it.reduced.end.turns + length it.reduced.end.accepted.items * (settings.window - 1) + 1) before after
 
 -- How a run ends that keeps a journal: at 12 the call on the disk made last failed; at 12 and 13 neither the file nor the log was written.
-pub record EndsWithJournal (k : KeptTask) (old new : Outside) (after : Judging) (has_failed : Bool) (status : ℕ) : Type 0 where
-  pub ends : ((status ≡ 0) ⊎ (status ≡ 7)) ⊎ ((status ≡ 8) ⊎ (status ≡ 10)) → EndsOn k old new after status
+pub record EndsWithJournal (k : KeptTask) (marks : Marks) (old new : Outside) (after : Judging) (has_failed : Bool) (status : ℕ) : Type 0 where
+  pub ends : ((status ≡ 0) ⊎ (status ≡ 7)) ⊎ ((status ≡ 8) ⊎ (status ≡ 10)) → EndsOn k marks old new after status
   pub failed : status ≡ 12 → (has_failed ≡ true) × CopiesAtMost k.name (files_told old.story) (files_told new.story)
   pub refused : status ≡ 13 → files_told new.story ≡ files_told old.story
 
@@ -181,8 +181,8 @@ abbrev pub EndsIn : Engine → Settings → Query → KeptTask → Outside → O
 EndsIn engine.Plain settings query k old new before after has_failed status =
     EndsBy settings query k (λ bytes. by_epochs (at k bytes)) old new before after status × AsksFew settings k old new before after status
 EndsIn engine.Standing settings query k old new before after has_failed status = EndsBy settings query k (λ bytes. by_standing (at k bytes)) old new before after status
-EndsIn engine.Journal settings query k old new before after has_failed status = EndsWithJournal k old new after has_failed status
-EndsIn engine.Resume settings query k old new before after has_failed status = EndsWithJournal k old new after has_failed status
+EndsIn engine.Journal settings query k old new before after has_failed status = EndsWithJournal k (marks_of settings) old new after has_failed status
+EndsIn engine.Resume settings query k old new before after has_failed status = EndsWithJournal k (marks_of settings) old new after has_failed status
 
 -- What stands at 0, 7, 8 and 10, and with a journal at 12 and 13; 8 comes only where the question uses a judge. Of a replay, that **the
 -- log leads from the copy to the file**.

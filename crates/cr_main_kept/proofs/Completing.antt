@@ -104,7 +104,7 @@ module _ (k : KeptTask) (bytes : List ℕ) (old new : Outside) (before after : J
       → ((end : End) → IsReductionOn (at k bytes).search since after k.window k.limit kept end → end.why ≡ Limit → ⊥)
       → EndsKept (at k bytes) kept old_size started new since after has_failed status → IsSpared status
   ended_spared started since kept old_size status same on limit (cut_off end is_short reduction journal failed said) = by_disk status (put_status started new _ 12 status said)
-  ended_spared started since kept old_size status same on limit (concluded end reduced size reduction journalled sized ends) =
+  ended_spared started since kept old_size status same on limit (concluded end reduced size reduction journalled all sized ends) =
       concluded_spared reduced end old_size size status (journalled.output_faults ∙ same) (end_spared since end.why on (limit end reduction) reduction.cause) ends
 
   -- ---- what ends a run early

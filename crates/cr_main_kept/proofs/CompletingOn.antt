@@ -45,7 +45,8 @@ use Rattle.cr_main_kept.specs.Surviving.{IsSafeFor, IsWhole, records_of}
 use Rattle.cr_main_kept.specs.declared.header.Marks.{Marks}
 use Rattle.cr_main_kept.proofs.Completing.{IsSpared, by_disk, by_fault, ended_spared, fault_spared, first_spared, journal_free, spared_free, stops_spared, within_time}
 use Rattle.cr_main_kept.proofs.Promises.{kept_promises}
-use Rattle.cr_main_kept.proofs.Surviving.{FitAll, IsStory, begins_whole, come_first, copy_there, every_read, file_there, first_everywhere, front_of_kept, goes_from, now_safe, one_content, read_stays, recovered_stays, rest_first, rows_fit, rows_front, same_outcome, still_story}
+use Rattle.cr_main_kept.proofs.Stories.{every_read}
+use Rattle.cr_main_kept.proofs.Surviving.{FitAll, IsStory, begins_whole, come_first, copy_there, file_there, first_everywhere, front_of_kept, goes_from, now_safe, one_content, read_stays, recovered_stays, rest_first, rows_fit, rows_front, same_outcome, still_story}
 use Rattle.cr_main_task.specs.Headline.{enough_for}
 use Rattle.cr_main_task.specs.Messages.{copy_name}
 use Rattle.cr_main_task.specs.Outside.{Outside}
@@ -188,7 +189,7 @@ module _ (k : KeptTask) (marks : Marks) (bytes : List ℕ) (size : ℕ) (out : O
   further_spared header rows from status same told safe rests fits (lawful other read copy own is_lawful follows) =
       let to_read = read_stays k marks bytes size out whole saves of_programs one excluded sixteen (copy_name k.name) called.Done from.story read.story copy.calls safe in
       let read_rests : EveryTold (AtRest (bodies_of header rows)) read.story =
-      subst (λ (m : Option Story). EveryTold (AtRest (bodies_of header rows)) m) (sym copy.calls) (every_read k marks bytes size out whole saves of_programs one excluded sixteen (AtRest (bodies_of header rows)) from.story (copy_name k.name) most_read called.Done rests) in
+      subst (λ (m : Option Story). EveryTold (AtRest (bodies_of header rows)) m) (sym copy.calls) (every_read (AtRest (bodies_of header rows)) from.story (copy_name k.name) most_read called.Done rests) in
       follows_spared header rows read status (copy.same.output_faults ∙ same) (still_story k marks bytes size out whole saves of_programs one excluded sixteen from.story read.story to_read told) (now_safe k marks bytes size out whole saves of_programs one excluded sixteen from.story read.story to_read) read_rests fits
       (subst (λ (b : List ℕ). FollowsOn (at k b) b rows read new before after has_failed status) (is_copy header rows from.story other told safe rests copy.begins) follows)
 

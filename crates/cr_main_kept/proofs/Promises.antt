@@ -1,7 +1,8 @@
 -- What a kept run promises, from what it comes to.
 use Rattle.std.proofs.Common.{◌≡◌, ◌⊎◌, inl, inr, ℕ, ◌<◌, ◌≤◌, Bool, true, false, List, [], ◌∷◌, ◌++◌, append_assoc, Option, Some, None, Err, refl, sym, ◌∙◌, ap, subst, arith}
 use Rattle.cr_journal.specs.Keeping.{IsReductionOn}
-use Rattle.cr_journal_records.specs.Records.{Body, Stands}
+use Rattle.cr_journal_records.specs.Records.{AtRest, Body, Stands}
+use Rattle.cr_journal_rows.specs.Forms.{bodies_of, header_body}
 use Rattle.cr_journal_rows.specs.declared.fault.JournalFault.{JournalFault}
 use Rattle.cr_journal_rows.specs.declared.fault.JournalFault.TheVariants as journal_fault
 use Rattle.cr_log.specs.Texts.{log_text_of, summary_text_of}
@@ -12,7 +13,7 @@ use Rattle.cr_outside.specs.declared.files.FileFault.TheVariants as fault
 use Rattle.cr_outside.specs.declared.story.Outcome.{Outcome}
 use Rattle.cr_outside.specs.declared.story.Outcome.TheVariants as outcome
 use Rattle.cr_outside.proofs.Stories.{fault_last, goes_event, goes_further, goes_nowhere, write_leaves}
-use Rattle.cr_outside_disk.specs.Moments.{LastsTold, after_changes}
+use Rattle.cr_outside_disk.specs.Moments.{EveryTold, LastsTold, after_changes}
 use Rattle.cr_reduce.specs.Bench.{AsksAtMost, CallsAbout, Judging}
 use Rattle.cr_reduce.specs.Ends.{FaultsWithCause}
 use Rattle.cr_reduce.specs.Search.{Search}
@@ -22,7 +23,8 @@ use Rattle.cr_reduce.specs.declared.end.End.{End}
 use Rattle.cr_reduce.specs.declared.end.Kept.{Kept}
 use Rattle.cr_reduce.specs.declared.end.Why.{Why}
 use Rattle.cr_reduce.specs.declared.end.Why.TheVariants as why
-use Rattle.cr_main_kept.specs.Kept.{EndsKept, FollowsOn, Journals, RunsFirst, RunsFurther, RunsJournal, RunsResume, StartsOn, Stops, asking}
+use Rattle.cr_main_kept.specs.Header.{Fits, header_of}
+use Rattle.cr_main_kept.specs.Kept.{EndsKept, FollowsOn, HasKeptAll, Journals, RunsFirst, RunsFurther, RunsJournal, RunsResume, StartsOn, Stops, asking}
 use Rattle.cr_main_kept.specs.Kept.EndsKept.{concluded, cut_off}
 use Rattle.cr_main_kept.specs.Kept.RunsFirst.{opened as first_opened, unopened}
 use Rattle.cr_main_kept.specs.Kept.StartsOn.{begun, stopped, unbegun}
@@ -54,6 +56,7 @@ use Rattle.cr_main_task.specs.Run.HasAsked.{asked_file, asked_nothing}
 use Rattle.cr_main_task.specs.Task.{FileHas, IsRead, Task, Text, given, most_read, stored}
 use Rattle.cr_main_task.specs.declared.messages.Refusal.{Refusal}
 use Rattle.cr_main_task.specs.declared.messages.Refusal.TheVariants as refusal
+use Rattle.cr_main_kept.proofs.Stories.{every_read, every_saved}
 use Rattle.cr_main_task.proofs.Calls.{read_fails, read_goes_on}
 use Rattle.cr_main_task.proofs.Statuses.{fails_status, put_status, reason_is}
 
@@ -242,12 +245,12 @@ puts_since old now new line whole cut status same count said = subst
     same
     (subst (λ (f : ℕ). Puts (record now { output_faults = f }) new line whole cut status) count said)
 
-module _ (k : KeptTask) where
+module _ (k : KeptTask) (marks : Marks) where
   -- ---- runs that end before they reduce
 
   -- no file was written, and no call on the outside failed
   idle_promises : (old new : Outside) (before after : Judging) (has_failed : Bool) (status : ℕ) → IsOther k.asks status → files_told new.story ≡ files_told old.story → AsksOnlyOn k (files_told old.story) before after
-      → PromisesOn k old new before after has_failed status
+      → PromisesOn k marks old new before after has_failed status
   idle_promises old new before after has_failed status other same asks = record {
     ends = λ which. elim which [
       | inl (inl e) ↦ absurd (other.not_0 e)
@@ -265,7 +268,7 @@ module _ (k : KeptTask) where
 
   -- a call on the files failed, the last
   faulty_promises : (old new : Outside) (before after : Judging) (has_failed : Bool) (status : ℕ) → (status ≡ 9) ⊎ (status ≡ 11) → CopiesAtMost k.name (files_told old.story) (files_told new.story)
-      → (status ≡ 9 → EndsWithFault old.story new.story) → AsksOnlyOn k (files_told old.story) before after → PromisesOn k old new before after has_failed status
+      → (status ≡ 9 → EndsWithFault old.story new.story) → AsksOnlyOn k (files_told old.story) before after → PromisesOn k marks old new before after has_failed status
   faulty_promises old new before after has_failed status is copies last asks = record {
     ends = λ which. absurd (not_end status 9 is (inl refl) which);
     failed = λ e. absurd (neither status 9 12 is (λ n. omega (arith, n)) (λ n. omega (arith, n)) e);
@@ -278,7 +281,7 @@ module _ (k : KeptTask) where
 
   -- a call on the journal failed, the last
   cut_promises : (old new : Outside) (before after : Judging) (has_failed : Bool) (status : ℕ) → (status ≡ 12) ⊎ (status ≡ 11) → (status ≡ 12 → has_failed ≡ true)
-      → CopiesAtMost k.name (files_told old.story) (files_told new.story) → AsksOnlyOn k (files_told old.story) before after → PromisesOn k old new before after has_failed status
+      → CopiesAtMost k.name (files_told old.story) (files_told new.story) → AsksOnlyOn k (files_told old.story) before after → PromisesOn k marks old new before after has_failed status
   cut_promises old new before after has_failed status is cause copies asks = record {
     ends = λ which. absurd (not_end status 12 is (inr refl) which);
     failed = λ e. (cause e, copies);
@@ -300,7 +303,7 @@ module _ (k : KeptTask) where
   -- ---- from an earlier time on
 
   begin_earlier : (old now new : Outside) (after : Judging) (status : ℕ) → files_told now.story ≡ files_told old.story → now.output ≡ old.output → now.output_faults ≡ old.output_faults
-      → EndsOn k now new after status → EndsOn k old new after status
+      → EndsOn k marks now new after status → EndsOn k marks old new after status
   begin_earlier old now new after status same output faults (untested_on is files) = untested_on is (files ∙ same)
   begin_earlier old now new after status same output faults (finished_on it) = finished_on (record {
     first = it.first;
@@ -315,11 +318,12 @@ module _ (k : KeptTask) where
     sized = it.sized;
     remembered = it.remembered;
     files = it.files ∙ ap (λ (files : Option Names). put_told (log_name k.name) (log_text_of it.end it.size) (put_told k.name it.end.file.items (saved it.first (copy_name k.name) it.bytes files))) same;
+    rests = it.rests;
     output = puts_since old now new (summary_text_of k.name it.old_size it.size it.end) (end_status it.end.why) 10 status output faults it.output;
   })
 
   earlier : (old now new : Outside) (before after : Judging) (has_failed : Bool) (status : ℕ) → files_told now.story ≡ files_told old.story → GoesOn old.story now.story → now.output ≡ old.output
-      → now.output_faults ≡ old.output_faults → PromisesOn k now new before after has_failed status → PromisesOn k old new before after has_failed status
+      → now.output_faults ≡ old.output_faults → PromisesOn k marks now new before after has_failed status → PromisesOn k marks old new before after has_failed status
   earlier old now new before after has_failed status same on output faults it = record {
     ends = λ which. begin_earlier old now new after status same output faults (it.ends which);
     failed = λ e. let (cause, copies) = it.failed e in (cause, subst (λ (files : Option Names). CopiesAtMost k.name files (files_told new.story)) same copies);
@@ -363,7 +367,7 @@ module _ (k : KeptTask) where
   module _ (saves : k.saves ≡ true) (first : Bool) (old started : Outside) (before since : Judging) (bytes : List ℕ) (kept : Kept) (old_size : ℕ) (has : HasGiven first k.name (files_told old.story) bytes)
       (is_lawful : k.law.Lawful bytes) (begins : BeginsAt first (at k bytes) bytes kept) (old_sized : HasSize bytes old_size) (calls : CallsAbout before.calls since.calls k.own bytes)
       (few : AsksAtMost 1 before since) (copy : files_told started.story ≡ saved first (copy_name k.name) bytes (files_told old.story)) (on : GoesOn old.story started.story)
-      (output : started.output ≡ old.output) (output_faults : started.output_faults ≡ old.output_faults) where
+      (output : started.output ≡ old.output) (output_faults : started.output_faults ≡ old.output_faults) (rests : EveryTold (AtRest (bodies_of (header_of marks k.limit old_size) kept.accepted.items)) started.story) where
     reduced_so : (after : Judging) (end : End) → IsReductionOn (at k bytes).search since after k.window k.limit kept end → HasReducedOn (at k bytes) first (files_told old.story) since after bytes kept end
     reduced_so after end reduction = record { has = has; lawful = is_lawful; begins = begins; reduction = reduction }
 
@@ -371,14 +375,14 @@ module _ (k : KeptTask) where
     asks_so after end reduction = asks_variants_on first bytes since kept end calls few (reduced_so after end reduction)
 
     ends_so : (reduced new : Outside) (after : Judging) (end : End) (size status : ℕ) → IsReductionOn (at k bytes).search since after k.window k.limit kept end → files_told reduced.story ≡ files_told started.story
-        → reduced.output ≡ started.output → reduced.output_faults ≡ started.output_faults → HasSize end.file.items size → Concludes true k.name reduced new end old_size size status → IsEnd status
-        → EndsOn k old new after status
-    ends_so reduced new after end size status reduction same so faults_so sized (unfinished unmoved is) which = absurd (not_end status 9 (inr is) (inl refl) which)
-    ends_so reduced new after end size status reduction same so faults_so sized (unwritten ended wrong) which =
+        → reduced.output ≡ started.output → reduced.output_faults ≡ started.output_faults → HasKeptAll kept end started.story reduced.story → HasSize end.file.items size → Concludes true k.name reduced new end old_size size status → IsEnd status
+        → EndsOn k marks old new after status
+    ends_so reduced new after end size status reduction same so faults_so all sized (unfinished unmoved is) which = absurd (not_end status 9 (inr is) (inl refl) which)
+    ends_so reduced new after end size status reduction same so faults_so all sized (unwritten ended wrong) which =
         absurd (not_end status 9 (fails_status true reduced new k.name status wrong.fails) (inl refl) which)
-    ends_so reduced new after end size status reduction same so faults_so sized (unlogged written ended once wrong) which =
+    ends_so reduced new after end size status reduction same so faults_so all sized (unlogged written ended once wrong) which =
         absurd (not_end status 9 (fails_status true written new (log_name k.name) status wrong.fails) (inl refl) which)
-    ends_so reduced new after end size status reduction same so faults_so sized (summed_up ended files made said) which = finished_on (record {
+    ends_so reduced new after end size status reduction same so faults_so all sized (summed_up ended files made said) which = finished_on (record {
       first = first;
       bytes = bytes;
       since = since;
@@ -393,6 +397,11 @@ module _ (k : KeptTask) where
       files =
           ap files_told made ∙ save_leaves true (log_name k.name) (log_text_of end size) (story_saved true k.name end.file.items reduced.story)
           ∙ ap (λ (m : Option Names). put_told (log_name k.name) (log_text_of end size) m) (save_leaves true k.name end.file.items reduced.story ∙ ap (λ (m : Option Names). put_told k.name end.file.items m) (same ∙ copy));
+      rests =
+          let stands = AtRest (bodies_of (header_of marks k.limit old_size) end.accepted.items) in
+          subst (EveryTold stands) (sym made)
+          (every_saved stands true (story_saved true k.name end.file.items reduced.story) (log_name k.name) (log_text_of end size)
+          (every_saved stands true reduced.story k.name end.file.items (all ended (header_body (header_of marks k.limit old_size)) rests)));
       output = puts_since old reduced new (summary_text_of k.name old_size size end) (end_status end.why) 10 status (so ∙ output) (faults_so ∙ output_faults) said;
     })
 
@@ -425,15 +434,15 @@ module _ (k : KeptTask) where
     failing_so reduced new after end size status cause (summed_up ended files made (said_cut n put rose is)) e = absurd (omega (arith, is, e))
     failing_so reduced new after end size status cause (summed_up ended files made (said_starved n put is)) e = absurd (omega (arith, is, e))
 
-    ended : (new : Outside) (after : Judging) (has_failed : Bool) (status : ℕ) → EndsKept (at k bytes) kept old_size started new since after has_failed status → PromisesOn k old new before after has_failed status
+    ended : (new : Outside) (after : Judging) (has_failed : Bool) (status : ℕ) → EndsKept (at k bytes) kept old_size started new since after has_failed status → PromisesOn k marks old new before after has_failed status
     ended new after has_failed status (cut_off end is_short reduction journal failed said) =
         cut_promises old new before after has_failed status (put_status started new _ 12 status said) (λ e. failed)
         (copies_by first bytes (files_told old.story) (files_told new.story) has (journal_leaves _ started.story new.story journal ∙ copy)) (asks_so after end reduction)
-    ended new after has_failed status (concluded end reduced size reduction journalled sized concludes) =
+    ended new after has_failed status (concluded end reduced size reduction journalled all sized concludes) =
         let same = journal_leaves _ started.story reduced.story journalled.journal in
         let saving : Concludes true k.name reduced new end old_size size status = subst (λ (b : Bool). Concludes b k.name reduced new end old_size size status) saves concludes in
         record {
-          ends = λ which. ends_so reduced new after end size status reduction same journalled.output journalled.output_faults sized saving which;
+          ends = λ which. ends_so reduced new after end size status reduction same journalled.output journalled.output_faults all sized saving which;
           failed = λ e. absurd (never_above 12 (omega arith) reduced new end size status saving e);
           refused = λ e. absurd (never_above 13 (omega arith) reduced new end size status saving e);
           files_kept = written_on first bytes (log_text_of end size) since kept end (reduced_so after end reduction)
@@ -469,12 +478,12 @@ module _ (k : KeptTask) where
         asked_so first other (files_told old.story) before after (subst (λ (b : List ℕ). HasGiven first k.name (files_told old.story) b) (sym it.has) has) it.lawful it.calls it.few
 
     refused_promises : (r : Refusal) → opening_of r ≡ outcome.Done → (r ≡ refusal.TestFailed → k.asks ≡ true) → new.story ≡ old.story → Refuses old new k.name r status → AsksOnlyOn k (files_told old.story) before after
-        → PromisesOn k old new before after has_failed status
+        → PromisesOn k marks old new before after has_failed status
     refused_promises r opened fails same said asks =
         idle_promises old new before after has_failed status (either_other status (refusal_status r) (put_status old new _ (refusal_status r) status said) (refused_other r opened fails)) (ap files_told same) asks
 
   stops_first : (bytes : List ℕ) (old new : Outside) (before after : Judging) (has_failed : Bool) (status : ℕ) → FileHas (files_told old.story) k.name bytes → StopsEarly (at k bytes) bytes old new before after status
-      → PromisesOn k old new before after has_failed status
+      → PromisesOn k marks old new before after has_failed status
   stops_first bytes old new before after has_failed status has (refused r causes asked files calls said) =
       refused_promises true bytes old new before after has_failed status has r calls.0 (fails_by (at k bytes) (given bytes) old new before after r causes) calls.1 said (has_asked true bytes old new before after has_failed status has asked)
   stops_first bytes old new before after has_failed status has (early_wanting asked files told silent is) =
@@ -486,7 +495,7 @@ module _ (k : KeptTask) where
       (has_asked true bytes old new before after has_failed status has (asked_file bytes answered.asked))
 
   stops_asking : (bytes : List ℕ) (old new : Outside) (before after : Judging) (has_failed : Bool) (status : ℕ) → HasGiven false k.name (files_told old.story) bytes
-      → StopsEarly (asking (at k bytes)) bytes old new before after status → PromisesOn k old new before after has_failed status
+      → StopsEarly (asking (at k bytes)) bytes old new before after status → PromisesOn k marks old new before after has_failed status
   stops_asking bytes old new before after has_failed status has (refused r causes asked files calls said) =
       refused_promises false bytes old new before after has_failed status has r calls.0 (fails_by (asking (at k bytes)) (given bytes) old new before after r causes) calls.1 said (asking_asked false bytes old new before after has_failed status has asked)
   stops_asking bytes old new before after has_failed status has (early_wanting asked files told silent is) =
@@ -500,7 +509,7 @@ module _ (k : KeptTask) where
   -- ---- a run that begins a journal
 
   not_opened : (old new : Outside) (before after : Judging) (has_failed : Bool) (status : ℕ) → Unopened k.law k.name (stored (files_told old.story) k.name) old new status → after ≡ before
-      → PromisesOn k old new before after has_failed status
+      → PromisesOn k marks old new before after has_failed status
   not_opened old new before after has_failed status (file_not_there lacks files calls said) quiet =
       idle_promises old new before after has_failed status (either_other status 3 (put_status old new _ 3 status said) other_3) (read_leaves k.name outcome.Absent old.story new.story calls) (asks_nothing_on quiet)
   not_opened old new before after has_failed status (file_ruled_out reason bytes has unlawful against files calls said) quiet =
@@ -526,13 +535,13 @@ module _ (k : KeptTask) where
   file_still old read bytes opened = subst (λ (files : Option Names). FileHas files k.name bytes) (sym (read_leaves k.name outcome.Done old.story read.story opened.calls)) opened.has
 
   from_read : (name : List ℕ) (old read new : Outside) (before after : Judging) (has_failed : Bool) (status : ℕ) → IsRead name outcome.Done old.story read.story → IsUnchanged old read
-      → PromisesOn k read new before after has_failed status → PromisesOn k old new before after has_failed status
+      → PromisesOn k marks read new before after has_failed status → PromisesOn k marks old new before after has_failed status
   from_read name old read new before after has_failed status calls same it =
       earlier old read new before after has_failed status (read_leaves name outcome.Done old.story read.story calls) (read_goes_on name outcome.Done old.story read.story calls) same.output same.output_faults it
 
-  module _ (saves : k.saves ≡ true) (marks : Marks) where
+  module _ (saves : k.saves ≡ true) where
     starts_promises : (bytes : List ℕ) (old new : Outside) (before after : Judging) (has_failed : Bool) (status : ℕ) → FileHas (files_told old.story) k.name bytes → k.law.Lawful bytes
-        → StartsOn (at k bytes) marks bytes old new before after has_failed status → PromisesOn k old new before after has_failed status
+        → StartsOn (at k bytes) marks bytes old new before after has_failed status → PromisesOn k marks old new before after has_failed status
     starts_promises bytes old new before after has_failed status has is_lawful (stopped stops) = stops_first bytes old new before after has_failed status has stops
     starts_promises bytes old new before after has_failed status has is_lawful (unbegun copied size reason started journal cause stops) =
         let it = disk_stops copied new has_failed reason status cause stops in
@@ -543,9 +552,10 @@ module _ (k : KeptTask) where
         let copy = copy_leaves saves bytes old copied begins.copied.story in
         ended saves true old started before since bytes kept size has is_lawful is_first begins.sized begins.answered.asked.calls begins.answered.asked.few
         (journal_leaves _ copied.story started.story journalled.journal ∙ copy.0) (goes_further old.story copied.story started.story copy.1 (journal_goes_on _ copied.story started.story journalled.journal))
-        (journalled.output ∙ begins.copied.output) (journalled.output_faults ∙ begins.copied.output_faults) new after has_failed status ends
+        (journalled.output ∙ begins.copied.output) (journalled.output_faults ∙ begins.copied.output_faults)
+        (subst (λ (accepted : List Accepted). EveryTold (AtRest (bodies_of (header_of marks k.limit size) accepted)) started.story) (sym is_first.none) rests) new after has_failed status ends
 
-    first_promises : (old new : Outside) (before after : Judging) (has_failed : Bool) (status : ℕ) → RunsFirst k marks old new before after has_failed status → PromisesOn k old new before after has_failed status
+    first_promises : (old new : Outside) (before after : Judging) (has_failed : Bool) (status : ℕ) → RunsFirst k marks old new before after has_failed status → PromisesOn k marks old new before after has_failed status
     first_promises old new before after has_failed status (unopened why quiet) = not_opened old new before after has_failed status why quiet
     first_promises old new before after has_failed status (first_opened bytes read opens starts) =
         from_read k.name old read new before after has_failed status opens.calls opens.same
@@ -553,49 +563,53 @@ module _ (k : KeptTask) where
 
     -- ---- a run that goes on
 
-    on_promises : (bytes : List ℕ) (rows : List Accepted) (old new : Outside) (before after : Judging) (has_failed : Bool) (status : ℕ) → HasGiven false k.name (files_told old.story) bytes → k.law.Lawful bytes
-        → FollowsOn (at k bytes) bytes rows old new before after has_failed status → PromisesOn k old new before after has_failed status
-    on_promises bytes rows old new before after has_failed status has is_lawful (on_stopped stops) = stops_asking bytes old new before after has_failed status has stops
-    on_promises bytes rows old new before after has_failed status has is_lawful (differs asked size i begins breaks below same said) =
+    on_promises : (header : Header) (bytes : List ℕ) (rows : List Accepted) (old new : Outside) (before after : Judging) (has_failed : Bool) (status : ℕ) → HasGiven false k.name (files_told old.story) bytes → k.law.Lawful bytes
+        → Fits marks k.limit header bytes → EveryTold (AtRest (bodies_of header rows)) old.story → FollowsOn (at k bytes) bytes rows old new before after has_failed status → PromisesOn k marks old new before after has_failed status
+    on_promises header bytes rows old new before after has_failed status has is_lawful fits rests (on_stopped stops) = stops_asking bytes old new before after has_failed status has stops
+    on_promises header bytes rows old new before after has_failed status has is_lawful fits rests (differs asked size i begins breaks below same said) =
         idle_promises old new before after has_failed status (either_other status 13 (put_status asked new _ 13 status said) other_13) (ap files_told (same ∙ begins.copied.story))
         (asked_so false bytes (files_told old.story) before after has is_lawful begins.answered.asked.calls begins.answered.asked.few)
-    on_promises bytes rows old new before after has_failed status has is_lawful (closed asked size reason begins same cause stops) =
+    on_promises header bytes rows old new before after has_failed status has is_lawful fits rests (closed asked size reason begins same cause stops) =
         let it = disk_stops asked new has_failed reason status cause stops in
         cut_promises old new before after has_failed status it.0 it.1 (inl (ap files_told (same ∙ begins.copied.story)))
         (asked_so false bytes (files_told old.story) before after has is_lawful begins.answered.asked.calls begins.answered.asked.few)
-    on_promises bytes rows old new before after has_failed status has is_lawful (followed asked started since size kept begins replayed below reopened ends) =
+    on_promises header bytes rows old new before after has_failed status has is_lawful fits rests (followed asked started since size kept begins replayed below reopened ends) =
         let same = reopened.story ∙ begins.copied.story in
+        let is : header ≡ header_of marks k.limit size = fits.settings ∙ ap (header_of marks k.limit) (fits.size size begins.sized) in
         ended saves false old started before since bytes kept size has is_lawful (rows, replayed) begins.sized begins.answered.asked.calls begins.answered.asked.few
-        (ap files_told same) (same_goes_on old.story started.story same) (reopened.output ∙ begins.copied.output) (reopened.output_faults ∙ begins.copied.output_faults) new after has_failed status ends
+        (ap files_told same) (same_goes_on old.story started.story same) (reopened.output ∙ begins.copied.output) (reopened.output_faults ∙ begins.copied.output_faults)
+        (subst (λ (accepted : List Accepted). EveryTold (AtRest (bodies_of (header_of marks k.limit size) accepted)) started.story) (sym replayed.same)
+        (subst (λ (h : Header). EveryTold (AtRest (bodies_of h rows)) started.story) is (subst (EveryTold (AtRest (bodies_of header rows))) (sym same) rests))) new after has_failed status ends
 
-    further_promises : (header : Header) (rows : List Accepted) (old new : Outside) (before after : Judging) (has_failed : Bool) (status : ℕ)
-        → RunsFurther k marks header rows old new before after has_failed status → PromisesOn k old new before after has_failed status
-    further_promises header rows old new before after has_failed status (uncopied (not_there gone calls said) quiet) =
+    further_promises : (header : Header) (rows : List Accepted) (old new : Outside) (before after : Judging) (has_failed : Bool) (status : ℕ) → EveryTold (AtRest (bodies_of header rows)) old.story
+        → RunsFurther k marks header rows old new before after has_failed status → PromisesOn k marks old new before after has_failed status
+    further_promises header rows old new before after has_failed status rests (uncopied (not_there gone calls said) quiet) =
         idle_promises old new before after has_failed status (either_other status 3 (put_status old new _ 3 status said) other_3)
         (read_leaves (copy_name k.name) outcome.Absent old.story new.story calls) (asks_nothing_on quiet)
-    further_promises header rows old new before after has_failed status (uncopied (unread rose calls said) quiet) =
+    further_promises header rows old new before after has_failed status rests (uncopied (unread rose calls said) quiet) =
         faulty_promises old new before after has_failed status (put_status old new _ 9 status said) (inl (read_leaves (copy_name k.name) outcome.Failed old.story new.story calls))
         (λ nine. read_fails (copy_name k.name) old.story new.story calls) (asks_nothing_on quiet)
-    further_promises header rows old new before after has_failed status (uncopied (wanting calls silent is) quiet) =
+    further_promises header rows old new before after has_failed status rests (uncopied (wanting calls silent is) quiet) =
         idle_promises old new before after has_failed status (other_by status 11 is other_11) (read_leaves (copy_name k.name) outcome.NoMemory old.story new.story calls) (asks_nothing_on quiet)
-    further_promises header rows old new before after has_failed status (foreign bytes read has another fit same quiet said) =
+    further_promises header rows old new before after has_failed status rests (foreign bytes read has another fit same quiet said) =
         idle_promises old new before after has_failed status (either_other status 13 (put_status read new _ 13 status said) other_13)
         (ap files_told same ∙ read_leaves (copy_name k.name) outcome.Done old.story read.story has.calls) (asks_nothing_on quiet)
-    further_promises header rows old new before after has_failed status (ruled_out bytes read reason has fits unlawful against same quiet said) =
+    further_promises header rows old new before after has_failed status rests (ruled_out bytes read reason has fits unlawful against same quiet said) =
         idle_promises old new before after has_failed status
         (either_other status (refusal_status (refusal.Against reason)) (put_status read new _ (refusal_status (refusal.Against reason)) status said) (refused_other (refusal.Against reason) refl (λ e. cc)))
         (ap files_told same ∙ read_leaves (copy_name k.name) outcome.Done old.story read.story has.calls) (asks_nothing_on quiet)
-    further_promises header rows old new before after has_failed status (starved bytes read has same quiet is) =
+    further_promises header rows old new before after has_failed status rests (starved bytes read has same quiet is) =
         idle_promises old new before after has_failed status (other_by status 11 is other_11)
         (ap (λ (o : Outside). files_told o.story) same ∙ read_leaves (copy_name k.name) outcome.Done old.story read.story has.calls) (asks_nothing_on quiet)
-    further_promises header rows old new before after has_failed status (lawful bytes read has fits is_lawful follows) =
+    further_promises header rows old new before after has_failed status rests (lawful bytes read has fits is_lawful follows) =
         from_read (copy_name k.name) old read new before after has_failed status has.calls has.same
-        (on_promises bytes rows read new before after has_failed status
-        (subst (λ (files : Option Names). HasGiven false k.name files bytes) (sym (read_leaves (copy_name k.name) outcome.Done old.story read.story has.calls)) has.begins) is_lawful follows)
+        (on_promises header bytes rows read new before after has_failed status
+        (subst (λ (files : Option Names). HasGiven false k.name files bytes) (sym (read_leaves (copy_name k.name) outcome.Done old.story read.story has.calls)) has.begins) is_lawful fits
+        (subst (EveryTold (AtRest (bodies_of header rows))) (sym has.calls) (every_read (AtRest (bodies_of header rows)) old.story (copy_name k.name) most_read outcome.Done rests)) follows)
 
     -- ---- the two runs
 
-    journal_promises : (old new : Outside) (before after : Judging) (has_failed : Bool) (status : ℕ) → RunsJournal k marks old new before after has_failed status → PromisesOn k old new before after has_failed status
+    journal_promises : (old new : Outside) (before after : Judging) (has_failed : Bool) (status : ℕ) → RunsJournal k marks old new before after has_failed status → PromisesOn k marks old new before after has_failed status
     journal_promises old new before after has_failed status (unstarted reason cause same quiet stops) =
         let it = disk_stops old new has_failed reason status cause stops in
         cut_promises old new before after has_failed status it.0 it.1 (inl (ap files_told same)) (asks_nothing_on quiet)
@@ -607,7 +621,7 @@ module _ (k : KeptTask) where
 
     -- a journal that was not recovered
     unrecovered_promises : (reason : JournalFault) (old new : Outside) (before after : Judging) (has_failed : Bool) (status : ℕ) → (reason ≡ journal_fault.Disk → has_failed ≡ true)
-        → files_told new.story ≡ files_told old.story → after ≡ before → Stops old new k.name reason status → PromisesOn k old new before after has_failed status
+        → files_told new.story ≡ files_told old.story → after ≡ before → Stops old new k.name reason status → PromisesOn k marks old new before after has_failed status
     unrecovered_promises journal_fault.NoMemory old new before after has_failed status cause same quiet stops =
         idle_promises old new before after has_failed status (other_by status 11 stops.1 other_11) same (asks_nothing_on quiet)
     unrecovered_promises journal_fault.Disk old new before after has_failed status cause same quiet stops =
@@ -617,7 +631,7 @@ module _ (k : KeptTask) where
     unrecovered_promises (journal_fault.Differs n) old new before after has_failed status cause same quiet stops =
         idle_promises old new before after has_failed status (either_other status 13 (put_status old new (refused_line k.name n) 13 status stops) other_13) same (asks_nothing_on quiet)
 
-    resume_promises : (old new : Outside) (before after : Judging) (has_failed : Bool) (status : ℕ) → RunsResume k marks old new before after has_failed status → PromisesOn k old new before after has_failed status
+    resume_promises : (old new : Outside) (before after : Judging) (has_failed : Bool) (status : ℕ) → RunsResume k marks old new before after has_failed status → PromisesOn k marks old new before after has_failed status
     resume_promises old new before after has_failed status (unrecovered reason recovers never cause journal quiet stops) =
         unrecovered_promises reason old new before after has_failed status cause (journal_leaves _ old.story new.story journal) quiet stops
     resume_promises old new before after has_failed status (anew started recovers journalled none runs) =
@@ -625,10 +639,10 @@ module _ (k : KeptTask) where
         journalled.output journalled.output_faults (first_promises started new before after has_failed status runs)
     resume_promises old new before after has_failed status (further started header rows recovers journalled rests fits runs) =
         earlier old started new before after has_failed status (journal_leaves _ old.story started.story journalled.journal) (journal_goes_on _ old.story started.story journalled.journal)
-        journalled.output journalled.output_faults (further_promises header rows.items started new before after has_failed status runs)
+        journalled.output journalled.output_faults (further_promises header rows.items started new before after has_failed status rests runs)
 
 -- what each kept run promises
 pub kept_promises : (k : KeptTask) (marks : Marks) (old new : Outside) (before after : Judging) (has_failed : Bool) (status : ℕ) → k.saves ≡ true
-    → RunsJournal k marks old new before after has_failed status ⊎ RunsResume k marks old new before after has_failed status → PromisesOn k old new before after has_failed status
-kept_promises k marks old new before after has_failed status saves (inl runs) = journal_promises k saves marks old new before after has_failed status runs
-kept_promises k marks old new before after has_failed status saves (inr runs) = resume_promises k saves marks old new before after has_failed status runs
+    → RunsJournal k marks old new before after has_failed status ⊎ RunsResume k marks old new before after has_failed status → PromisesOn k marks old new before after has_failed status
+kept_promises k marks old new before after has_failed status saves (inl runs) = journal_promises k marks saves old new before after has_failed status runs
+kept_promises k marks old new before after has_failed status saves (inr runs) = resume_promises k marks saves old new before after has_failed status runs

@@ -46,6 +46,16 @@ none_saved true None name bytes none = tt
 none_saved true (Some s) name bytes none = none
 none_saved false told name bytes none = none
 
+-- what stands in every image still does once a file is read or saved
+pub every_read : (P : List ℕ → Type 0) (told : Option Story) (name : List ℕ) (most : ℕ) (outcome : Outcome) → EveryTold P told → EveryTold P (with_event (Read name most outcome) told)
+every_read P None name most outcome holds = tt
+every_read P (Some s) name most outcome holds = holds
+
+pub every_saved : (P : List ℕ → Type 0) (saves : Bool) (told : Option Story) (name bytes : List ℕ) → EveryTold P told → EveryTold P (story_saved saves name bytes told)
+every_saved P true None name bytes holds = tt
+every_saved P true (Some s) name bytes holds = holds
+every_saved P false told name bytes holds = holds
+
 -- in an empty journal none stands
 pub none_empty : (told : Option Story) → HasLength told 0 → StandsNone told
 none_empty None empty = tt

@@ -1,5 +1,5 @@
 -- A run that is kept survives its stops.
-use Rattle.std.proofs.Common.{◌≡◌, ◌⊎◌, inl, inr, ℕ, ◌^◌, ◌<◌, ◌≤◌, Bool, true, false, List, [], ◌∷◌, ◌++◌, map, take, length, Option, Some, None, codes, refl, sym, ◌∙◌, ap, subst, arith, length-append}
+use Rattle.std.proofs.Common.{◌≡◌, ◌≢◌, ◌⊎◌, inl, inr, ℕ, ◌^◌, ◌<◌, ◌≤◌, Bool, true, false, List, [], ◌∷◌, ◌++◌, map, take, length, Option, Some, None, codes, refl, sym, ◌∙◌, ap, subst, arith, length-append}
 use Rattle.std.proofs.lemmas.List.{append-nil, take_all}
 use Rattle.cr_cursor.specs.Variants.{Offer}
 use Rattle.cr_journal.specs.Keeping.{journal_of}
@@ -46,7 +46,7 @@ use Rattle.cr_reduce.proofs.Sizes.{one_size, size_by_length}
 use Rattle.cr_replay.specs.Chains.{Follows, IsStep}
 use Rattle.cr_replay.specs.Chains.Follows.{further}
 use Rattle.cr_main_kept.specs.Header.{header_of}
-use Rattle.cr_main_kept.specs.Kept.{AreOfReduction, AnyRecords, BeginWith, EndsKept, FileBegins, FollowsOn, IsFirst, Journals, RunsFirst, RunsFurther, RunsJournal, RunsResume, StartsOn, Stops, asking}
+use Rattle.cr_main_kept.specs.Kept.{AreOfReduction, AnyRecords, BeginWith, EndsKept, FileBegins, FollowsOn, HasKeptAll, IsFirst, Journals, RunsFirst, RunsFurther, RunsJournal, RunsResume, StartsOn, Stops, asking}
 use Rattle.cr_main_kept.specs.Kept.EndsKept.{cut_off as ending_cut_off, concluded as ending_concluded}
 use Rattle.cr_main_kept.specs.Kept.StartsOn.{stopped as starts_stopped, unbegun as starts_unbegun, begun as starts_begun}
 use Rattle.cr_main_kept.specs.Kept.RunsFirst.{unopened as first_unopened, opened as first_opened}
@@ -57,8 +57,9 @@ use Rattle.cr_main_kept.specs.Kept.RunsJournal.{unstarted as keeping_unstarted, 
 use Rattle.cr_main_kept.specs.Kept.RunsResume.{unrecovered as resuming_unrecovered, anew as resuming_anew, further as resuming_further}
 use Rattle.cr_main_kept.specs.KeptTask.{KeptTask, at}
 use Rattle.cr_main_kept.specs.Lines.{fault_line, refused_line}
-use Rattle.cr_main_kept.specs.Surviving.{HasResult, IsSafeFor, IsWhole, Survives}
+use Rattle.cr_main_kept.specs.Surviving.{HasResult, IsSafeFor, IsWhole, Survives, records_of}
 use Rattle.cr_main_kept.specs.declared.header.Marks.{Marks}
+use Rattle.cr_main_kept.proofs.Stories.{every_read, every_saved}
 use Rattle.cr_main_task.specs.Beginning.{HasBegun, StopsEarly}
 use Rattle.cr_main_task.specs.Beginning.StopsEarly.{refused as early_refused, wanting as early_wanting, not_copied as early_not_copied}
 use Rattle.cr_main_task.specs.Messages.{copy_name, log_name}
@@ -194,7 +195,7 @@ module _ (k : KeptTask) (marks : Marks) (bytes : List ℕ) (size : ℕ) (out : O
 
   -- what a call promises, from a time on
   abbrev Promises : Outside → Outside → ℕ → Type 0
-  Promises old new status = Stays old.story new.story × (IsDone status → HasResult t bytes size out old new status)
+  Promises old new status = Stays old.story new.story × (IsDone status → HasResult t marks bytes size out old new status)
 
   then_stays : (a b c : Option Story) → Stays a b → Stays b c → Stays a c
   then_stays a b c first second = phases copy t.name bytes header rest a b c first second
@@ -284,21 +285,21 @@ module _ (k : KeptTask) (marks : Marks) (bytes : List ℕ) (size : ℕ) (out : O
       (subst (λ (o : Offer). Reduces t.search.Offers (AcceptsAsTold t.search) (RejectsAsTold t.search) none_fails t.limit (kept_state kept_at.file.items o kept_at.at kept_at.accepted.items kept_at.turns) other) is other_run) run
 
   concluded : (kept_at : Kept) (reduced new : Outside) (end : End) (new_size status : ℕ) → ReducesOnAsTold t.search kept_at t.limit out → Safe reduced.story → EveryTold StandsFirst reduced.story
-      → EndsToldAt (ReducesOnAsTold t.search kept_at) (IsAsKept kept_at end) t.limit end end.why → HasSize end.file.items new_size
+      → EndsToldAt (ReducesOnAsTold t.search kept_at) (IsAsKept kept_at end) t.limit end end.why → (end.why ≢ NoMemory → EveryTold (AtRest (journal_of header end.accepted.items)) reduced.story) → HasSize end.file.items new_size
       → Concludes t.saves t.name reduced new end size new_size status → Promises reduced new status
-  concluded kept_at reduced new end new_size status goes safe stands told sized (concludes_unfinished same is) = (nothing reduced.story new.story (ap (λ (o : Outside). o.story) same) safe, λ done. absurd (never_11 status is done))
-  concluded kept_at reduced new end new_size status goes safe stands told sized (concludes_unwritten ended wrong) = (
+  concluded kept_at reduced new end new_size status goes safe stands told rests sized (concludes_unfinished same is) = (nothing reduced.story new.story (ap (λ (o : Outside). o.story) same) safe, λ done. absurd (never_11 status is done))
+  concluded kept_at reduced new end new_size status goes safe stands told rests sized (concludes_unwritten ended wrong) = (
     write_fails t.saves reduced new t.name end.file.items status (λ e is_put. write_file reduced.story end.file.items e is_put stands safe) safe wrong.fails,
     λ done. absurd (fails_is t.saves reduced new t.name status wrong.fails (is_of_ends status done)),
   )
-  concluded kept_at reduced new end new_size status goes safe stands told sized (concludes_unlogged written ended first wrong) =
+  concluded kept_at reduced new end new_size status goes safe stands told rests sized (concludes_unlogged written ended first wrong) =
       let text = log_text_of end new_size in
       let one_more : Stays reduced.story written.story = subst (Stays reduced.story) (sym (saved_story t.name end.file.items reduced.story written.story first.story)) (write_file reduced.story end.file.items called.Done true stands safe) in
       let still = now_safe reduced.story written.story one_more in (
         then_stays reduced.story written.story new.story one_more (write_fails t.saves written new (log_name t.name) text status (λ e is_put. write_log written.story text e is_put still) still wrong.fails),
         λ done. absurd (fails_is t.saves written new (log_name t.name) status wrong.fails (is_of_ends status done)),
       )
-  concluded kept_at reduced new end new_size status goes safe stands told sized (concludes_summed_up ended files calls said) =
+  concluded kept_at reduced new end new_size status goes safe stands told rests sized (concludes_summed_up ended files calls said) =
       let text = log_text_of end new_size in
       let mid = with_event (Wrote t.name end.file.items called.Done true) reduced.story in
       let one_more : Stays reduced.story mid = write_file reduced.story end.file.items called.Done true stands safe in
@@ -309,17 +310,24 @@ module _ (k : KeptTask) (marks : Marks) (bytes : List ℕ) (size : ℕ) (out : O
       let copied = has_still mid copy (log_name t.name) text bytes called.Done (copy_log_apart t.name) (has_still reduced.story copy t.name end.file.items bytes called.Done (copy_apart t.name) (copy_there reduced.story safe stands)) in
       let filed = has_still mid t.name (log_name t.name) text end.file.items called.Done (log_apart t.name) (has_put reduced.story t.name end.file.items called.Done) in (
         subst (Stays reduced.story) (sym all) (then_stays reduced.story mid (with_event (Wrote (log_name t.name) text called.Done true) mid) one_more (write_log mid text called.Done true still)),
-        λ done. let it = summed reduced new (summary_text_of t.name size new_size end) (end_status end.why) status said done in record {
-          end = end;
-          new_size = new_size;
-          is = same_outcome kept_at (outcome_of end end.why) goes (ended_whole (ReducesOnAsTold t.search kept_at) (IsAsKept kept_at end) t.limit end end.why (subst IsDone it.1 done) told);
-          ended = it.1;
-          sized = sized;
-          file = subst (λ (m : Option Story). FileHas (files_told m) t.name end.file.items) (sym all) filed;
-          log = subst (λ (m : Option Story). FileHas (files_told m) (log_name t.name) text) (sym all) (has_put mid (log_name t.name) text called.Done);
-          copy = subst (λ (m : Option Story). FileHas (files_told m) copy bytes) (sym all) copied;
-          output = it.0;
-        },
+        λ done.
+            let it = summed reduced new (summary_text_of t.name size new_size end) (end_status end.why) status said done in
+            let is = same_outcome kept_at (outcome_of end end.why) goes (ended_whole (ReducesOnAsTold t.search kept_at) (IsAsKept kept_at end) t.limit end end.why (subst IsDone it.1 done) told) in
+            record {
+              end = end;
+              new_size = new_size;
+              is = is;
+              ended = it.1;
+              sized = sized;
+              file = subst (λ (m : Option Story). FileHas (files_told m) t.name end.file.items) (sym all) filed;
+              log = subst (λ (m : Option Story). FileHas (files_told m) (log_name t.name) text) (sym all) (has_put mid (log_name t.name) text called.Done);
+              copy = subst (λ (m : Option Story). FileHas (files_told m) copy bytes) (sym all) copied;
+              output = it.0;
+              rests = subst (λ (o : Outcome). EveryTold (AtRest (records_of t marks size o)) new.story) is
+                  (subst (λ (m : Option Story). EveryTold (AtRest (journal_of header end.accepted.items)) m) (sym calls)
+                  (every_saved (AtRest (journal_of header end.accepted.items)) t.saves (story_saved t.saves t.name end.file.items reduced.story) (log_name t.name) text
+                  (every_saved (AtRest (journal_of header end.accepted.items)) t.saves reduced.story t.name end.file.items (rests ended))));
+            },
       )
 
   -- the promise, from an earlier time on
@@ -336,6 +344,7 @@ module _ (k : KeptTask) (marks : Marks) (bytes : List ℕ) (size : ℕ) (out : O
       log = it.log;
       copy = it.copy;
       output = it.output ∙ ap (λ (o : Option (List ℕ)). appended (summary_text_of t.name size it.new_size it.end) o) same;
+      rests = it.rests;
     },
   )
 
@@ -347,14 +356,14 @@ module _ (k : KeptTask) (marks : Marks) (bytes : List ℕ) (size : ℕ) (out : O
         journal_stays old.story new.story safe (AreOfReduction t.search t.limit kept_at old.story) journal are (spared old.story new.story (copy_there old.story safe stands)),
         λ done. absurd (never_put old new _ 12 status put (λ e. omega (arith, e)) (λ e. omega (arith, e)) done),
       )
-  ends_so kept_at old_size old new before after has_failed status size_is goes safe rests (ending_concluded end reduced new_size claims journalled sized ends) =
+  ends_so kept_at old_size old new before after has_failed status size_is goes safe rests (ending_concluded end reduced new_size claims journalled all sized ends) =
       let are : AreOfReduction t.search t.limit kept_at old.story (header ∷ rest) = record { told = whole.told; header = header; rests = rests; out = out; reduction = goes; are = refl } in
       let header_there = rest_first header (map row_body kept_at.accepted.items) old.story rests in
       let stands = first_everywhere header old.story header_there in
       let first = journal_stays old.story reduced.story safe (AreOfReduction t.search t.limit kept_at old.story) journalled.journal are (spared old.story reduced.story (copy_there old.story safe stands)) in
       let still_stands = first_everywhere header reduced.story (lasts_now (Stands (header ∷ [])) old.story reduced.story (journalled.journal.lasts (header ∷ [])) header_there) in
       from_earlier old reduced new status first journalled.output
-      (concluded kept_at reduced new end new_size status goes (now_safe old.story reduced.story first) still_stands (claims.reduction whole.told) sized
+      (concluded kept_at reduced new end new_size status goes (now_safe old.story reduced.story first) still_stands (claims.reduction whole.told) (λ some. all some header rests) sized
       (subst (λ (n : ℕ). Concludes t.saves t.name reduced new end n new_size status) size_is ends))
 
   -- ---- a run that begins a journal
@@ -452,10 +461,6 @@ module _ (k : KeptTask) (marks : Marks) (bytes : List ℕ) (size : ℕ) (out : O
     λ done. absurd (fails_is false old new copy status wrong.fails (is_of_ends status done)),
   )
 
-  pub every_read : (P : List ℕ → Type 0) (told : Option Story) (other : List ℕ) (most : ℕ) (end : Called) → EveryTold P told → EveryTold P (with_event (Read other most end) told)
-  every_read P None other most end holds = tt
-  every_read P (Some s) other most end holds = holds
-
   pub front_of_kept : (bodies all : List Body) (image last : List ℕ) → IsKept all image → Reads image bodies last → IsFront bodies all
   front_of_kept bodies all image last (kept some left reads front torn) as_read = subst (λ (l : List Body). IsFront l all) (reads_once image some bodies left last reads as_read).0 front
 
@@ -552,7 +557,7 @@ module _ (k : KeptTask) (marks : Marks) (bytes : List ℕ) (size : ℕ) (out : O
 
   pub survives : (old new : Outside) (before after : Judging) (has_failed : Bool) (status : ℕ) (s : Story) → old.story ≡ Some s → IsSafeFor t marks bytes size out s
       → RunsJournal k marks old new before after has_failed status ⊎ RunsResume k marks old new before after has_failed status
-      → (last : Story) × (new.story ≡ Some last) × StaysSafe copy t.name bytes (header ∷ rest) s last × (IsDone status → HasResult t bytes size out old new status)
+      → (last : Story) × (new.story ≡ Some last) × StaysSafe copy t.name bytes (header ∷ rest) s last × (IsDone status → HasResult t marks bytes size out old new status)
   survives old new before after has_failed status s is safe runs =
       let told_safe : Safe old.story = subst (λ (m : Option Story). Safe m) (sym is) safe in
       let it : Promises old new status = elim runs [

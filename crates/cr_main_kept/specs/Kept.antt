@@ -67,6 +67,12 @@ pub record AreOfReduction (s : Search) (limit : Option ℕ) (kept : Kept) (old :
   pub reduction : ReducesOnAsTold s kept limit out
   pub are : all ≡ journal_of header out.accepted
 
+-- Where the header and the rows that a reduction began behind stood in every image, the header and all rows that it ended with stand
+-- in every image at its end, but at want of memory.
+abbrev pub HasKeptAll : Kept → End → Option Story → Option Story → Type 0
+HasKeptAll kept e old new = e.why ≢ why.NoMemory → (header : Body) → EveryTold (AtRest (journal_of header kept.accepted.items)) old
+    → EveryTold (AtRest (journal_of header e.accepted.items)) new
+
 -- the line for a fault of the journal was put
 abbrev pub Stops : Outside → Outside → List ℕ → JournalFault → ℕ → Type 0
 Stops old new name why status = PutsFault old.output new.output old.output_faults new.output_faults name why status
@@ -79,7 +85,7 @@ pub data EndsKept (t : Task) (kept : Kept) (old_size : ℕ) (old new : Outside) 
       → Puts old new (fault_line t.name) 12 12 status → EndsKept t kept old_size old new before after has_failed status
   -- 0, 7, 8, 9, 10, 11: as a reduction without a journal
   concluded : (e : End) (reduced : Outside) (size : ℕ) → IsReductionOn t.search before after t.window t.limit kept e
-      → IsJournalled (AreOfReduction t.search t.limit kept old.story) old reduced → HasSize e.file.items size
+      → IsJournalled (AreOfReduction t.search t.limit kept old.story) old reduced → HasKeptAll kept e old.story reduced.story → HasSize e.file.items size
       → Concludes t.saves t.name reduced new e old_size size status → EndsKept t kept old_size old new before after has_failed status
 
 -- where a reduction without rows stands

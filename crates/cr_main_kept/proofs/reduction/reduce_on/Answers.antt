@@ -35,7 +35,7 @@ returns-in-Done-clause-ends g c =
           (journals_of (later c.args.bench.now.kept).search c.args.task.now.limit c.args.kept old new c.in-Done.ensures.lasts c.in-Done.ensures.any_moment);
       output = refl;
       output_faults = refl;
-    }) c.conclude.ensures.1 c.conclude.ensures.2
+    }) c.in-Done.ensures.rests c.conclude.ensures.1 c.conclude.ensures.2
 
 pub returns-in-Disk-clause-ends : goal.returns-in-Disk-clause-ends
 returns-in-Disk-clause-ends g c =
