@@ -11,7 +11,7 @@ failed=0
 # A top of its own: the launcher and the docs, one crate, and a program that says what the file "says" holds and ends with the status of "status".
 top=$folder/top
 mkdir -p "$top/crates/creduce/src" "$top/crates/creduce/out" "$folder/work"
-cp -r "$repository/creduce" "$repository/launcher" "$repository/docs" "$repository/examples" "$repository"/creduce-* "$top/"
+cp -r "$repository/creduce" "$repository/launcher" "$repository/docs" "$repository/examples" "$repository/include" "$repository"/creduce-* "$top/"
 echo 'creduce:' >"$top/crates.txt"
 echo 'Handles allowed: none.' >"$top/HANDLES"
 echo '//! A crate.' >"$top/crates/creduce/src/main.rt"
@@ -54,7 +54,7 @@ ended() { [ "$status" = "$1" ]; }
 
 usage='creduce: usage: creduce [--workers N] [--window N] [--limit N] [--steps N] [--passes LETTERS] TEST FILE'
 program 0 'f.c size 9 to 9 accepted 0 turns 0 fixed'
-for word in --help -h --version; do
+for word in --help -h; do
     call "$word"
     is "$word answers before a build" [ "$status$err" = 0 ]
 done
@@ -74,6 +74,48 @@ placed
 echo >>"$program"
 is "nor is a program that was replaced" eval 'call has:main f.c; ended 127'
 placed
+
+# A program that is handed out, with its record; the one that was built here goes aside.
+mkdir "$top/release" && cp "$repository/release/renew" "$top/release/" && mv "$program" "$top/release/creduce"
+printf '%s\n' 'creduce 1.0' 'kit a kit' 'gate 9 passed, 0 failed' 'date 2026-01-31' "program $(sha256sum <"$top/release/creduce" | cut -c 1-64)" \
+    "sources $("$top/release/renew" --sources)" >"$top/release/RECORD"
+is "a program that is handed out is taken where both checksums are right" eval 'call has:main f.c; ended 0 && says "was proved by a kit, of these very sources and not on this machine"'
+sleep 2
+call has:main f.c
+call has:main f.c
+is "which is said once" eval 'ended 0 && [ -z "$err" ]'
+is "--version has the record" eval 'call --version; ended 0 && grep -qx "gate 9 passed, 0 failed" out.txt'
+echo '//! Another crate?' >"$top/crates/creduce/src/main.rt"
+is "not where a source was edited" eval 'call has:main f.c; ended 127'
+touch -d 2020-01-01 "$top/crates/creduce/src/main.rt"
+echo '//! Another crate.' >"$top/crates/creduce/src/main.rt" && touch -d 2020-01-01 "$top/crates/creduce/src/main.rt"
+is "but where it has its bytes again" eval 'call has:main f.c; ended 0'
+sleep 2
+call has:main f.c
+echo '//! Another crate!' >"$top/crates/creduce/src/main.rt" && touch -d 2020-01-01 "$top/crates/creduce/src/main.rt"
+is "nor where one was edited to the same size and time" eval 'call has:main f.c; ended 127'
+echo '//! Another crate.' >"$top/crates/creduce/src/main.rt"
+sleep 2
+call has:main f.c
+touch "$top/crates/creduce/src/more.rt"
+is "nor where one was added" eval 'call has:main f.c; ended 127'
+rm "$top/crates/creduce/src/more.rt"
+is "but where it is gone again" eval 'call has:main f.c; ended 0'
+"$top/release/renew" --check >check.txt 2>&1
+is "the gate fails where it has built other bytes of the recorded sources" [ $? = 1 ]
+cp "$top/release/creduce" "$program"
+is "and passes where these are the bytes" eval '"$top/release/renew" --check >check.txt && grep -q "is what was built" check.txt'
+rm "$program"
+echo >>"$top/release/creduce"
+is "nor where the program isn't the recorded one" eval 'call has:main f.c; ended 127'
+sed -i 's/^sources .*/sources 0/' "$top/release/RECORD"
+is "the gate tells where the record is of older sources" eval '"$top/release/renew" --check >check.txt && grep -q "of older sources" check.txt'
+mv "$top/release/creduce" "$program" && rm -r "$top/release"
+placed
+call --install "$folder/prefix"
+is "--install puts the program and what belongs to it" eval 'ended 0 && cmp -s "$program" "$folder/prefix/bin/creduce" && [ -f "$folder/prefix/share/man/man1/creduce.1" ]'
+is "and the record says whether it is the recorded one" eval '[ "$(sed -n "s/^program //p" "$folder/prefix/bin/creduce.record")" = "$(sha256sum <"$program" | cut -c 1-64)" ]'
+is "and what belongs to it is found from there" eval '"$folder/prefix/bin/creduce-new-test" 2>&1 | grep -q missed-optimisation'
 
 echo first >f.c.orig
 call has:main f.c
@@ -166,5 +208,5 @@ ends program TERM
 ends program KILL
 
 is "the manual page is made of the help text" eval '"$top/launcher/manual.sh" | cmp -s - "$repository/docs/creduce.1"'
-for script in creduce creduce-new-test creduce-report launcher/*.sh; do [ -e "$repository/$script" ] || continue; bash -n "$repository/$script" || failed=1; done
+cd "$repository" && { ! command -v shellcheck >/dev/null || shellcheck -x creduce creduce-* release/renew launcher/*.sh examples/*.sh examples/*/*.sh || failed=1; }
 exit $failed
