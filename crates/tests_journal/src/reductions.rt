@@ -2,6 +2,7 @@
 // the lines pass and of the reduction.
 ghost use Rattle.std.specs.Prelude.{◌≡◌, ◌<◌, ◌≤◌, ◌+◌, ◌*◌, ◌^◌, [], ℕ, IfOk, IfSome, None, length, true};
 ghost use Rattle.cr_cursor.specs.TokenLaw.{IsTokenized};
+ghost use Rattle.cr_cursor.specs.Variants.{pass_count};
 ghost use Rattle.cr_journal.specs.Keeping.{Rests};
 ghost use Rattle.cr_journal_records.specs.Records.{AtRest};
 ghost use Rattle.cr_journal_rows.specs.Forms.{bodies_of};
@@ -142,7 +143,7 @@ fn opened<D: Disk>(
 // Where the reduction stands by the disk's journal. Nothing where a call on the disk failed.
 fn standing<D: Disk>(rt: &impl Abort, alloc: Global, disk: &mut D) -> Result<Option<Kept>, NoMemory>
     ensures sized { IfOk result (λ found. IfSome found (λ kept. (n : ℕ) × HasSize kept.file.items n)) }
-    ensures place { IfOk result (λ found. IfSome found (λ kept. (kept.at.pass < 10) × (kept.at.level < 16))) }
+    ensures place { IfOk result (λ found. IfSome found (λ kept. (kept.at.pass < pass_count) × (kept.at.level < 16))) }
     ensures turns { IfOk result (λ found. IfSome found (λ kept. kept.turns < 2 ^ 63)) }
     ensures rests { IfOk result (λ found. IfSome found (λ kept. Rests kept.accepted.items (D.story disk.new))) }
     ensures ready { IfOk result (λ found. IfSome found (λ _. D.is_ready disk.new ≡ true)) }
