@@ -1,5 +1,6 @@
 #include <assert.h>
 #include <ctype.h>
+#include <errno.h>
 #include <inttypes.h>
 #include <limits.h>
 #include <stdbool.h>
@@ -57,5 +58,7 @@ int main(void)
     texts();
     numbers();
     printf("%d %d\n", EOF, rand() <= RAND_MAX);
+    errno = ERANGE;
+    printf("%d %d %d %d %d\n", EDOM, errno, EINVAL, ENOMEM, ENOENT);
     exit(EXIT_SUCCESS);
 }

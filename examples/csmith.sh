@@ -8,6 +8,8 @@ set -eu
 [ $# -gt 0 ] || { echo "csmith.sh: give the seed, a number" >&2; exit 2; }
 top=$(cd "$(dirname "$(readlink -f "${BASH_SOURCE[0]}")")/.." && pwd)
 for tool in csmith gcc awk; do command -v $tool >/dev/null || { echo "csmith.sh: $tool isn't installed" >&2; exit 127; }; done
+headers=${CSMITH_HOME:-/usr/include/csmith}
+[ -f "$headers/csmith.h" ] || { echo "csmith.sh: csmith.h isn't in $headers: Debian's libcsmith-dev has it, and CSMITH_HOME names its folder" >&2; exit 127; }
 folder=$(mktemp -d)
 trap 'rm -r "$folder"' EXIT
 cd "$folder"
@@ -15,7 +17,8 @@ csmith --quiet --concise --no-argc --no-structs --no-unions --no-bitfields --no-
     --max-funcs 3 --max-block-depth 2 --seed "$@" >made.c
 # Of these csmith's headers include two more, and use nothing.
 mkdir none && touch none/float.h none/math.h
-gcc -E -P -nostdinc -I "$top/include" -I none -I "${CSMITH_HOME:-/usr/include/csmith}" made.c | sed 's/%\(l*\)X/%\1x/' >all.c
+gcc -E -P -nostdinc -I "$top/include" -I none -I "$headers" made.c >preprocessed.c
+sed 's/%\(l*\)X/%\1x/' preprocessed.c >all.c
 # A part is a declaration or a function of the headers; those that no other part names go, until none is left.
 while :; do
     awk '

@@ -20,15 +20,13 @@ needed() {
 sums() {
     local -a folders
     cd "$top" && mapfile -t folders < <(needed | sed 's/ .*//; s|^|crates/|')
-    find "${folders[@]}" \( -name out -o -name must-fail \) -prune -o -type f \( -name '*.rt' -o -name '*.antt' \) -print0 | sort -z |
-        xargs -0 sha256sum crates.txt HANDLES
+    { printf 'crates.txt\0HANDLES\0' && find "${folders[@]}" \( -name out -o -name must-fail \) -prune -o -type f \( -name '*.rt' -o -name '*.antt' \) -print0; } |
+        LC_ALL=C sort -z | xargs -0 sha256sum
 }
 
-# Sizes and times of the files of a list. A file that was added since isn't among them, but what makes use of it is.
-times_of() {
-    local -a files
-    mapfile -t files <"$1" && cd "$top" && stat -c '%s %.Y' -- "${files[@]}"
-}
+# Sizes, numbers and times of the files of a list, and the time of each one's last change, which can't be set by hand. A file that was added
+# since isn't among them, but what makes use of it is.
+times_of() { (cd "$top" && xargs -d '\n' -s 1000000 -a "$1" stat -c '%n %s %i %.Y %.Z'); }
 
 # Beside the program stand the checksums of its sources and its own (.sums), the names of these files (.files), and their sizes and times
 # (.times).
@@ -43,7 +41,7 @@ is_built() {
 # stamp SUMS TIMES: puts these, of the sources, and the program's own beside it.
 stamp() {
     (cat "$1" && sum_of_program) >"$program.sums" && cut -c 67- "$program.sums" >"$program.files" &&
-        (cat "$2" && cd "$top" && stat -c '%s %.Y' -- "$program") >"$program.times"
+        (cat "$2" && cd "$top" && stat -c '%n %s %i %.Y %.Z' -- "${program#"$top/"}") >"$program.times"
 }
 
 sum_of_program() { cd "$top" && sha256sum "${program#"$top/"}"; }

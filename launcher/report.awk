@@ -1,17 +1,18 @@
 # Reads logs of reductions, of each the size at first by -v sizeA= and -v sizeB= where it is known, and prints what was accepted as a table
-# and a picture of the size against the turns; with -v svg=FILE the picture is written there too.
+# and a picture of the size against the turns; with -v svg=FILE the picture is written there too. Where the size at first isn't known, the picture
+# begins with the first that is.
 
 # The first file is run A, the second one B.
 FNR == 1 { run = run == "" ? "A" : "B"; name[run] = FILENAME; count[run] = 0; turn = 0; size = run == "A" ? sizeA : sizeB; first[run] = size }
 
-$1 == "end" && NF == 4 { why[run] = $2; last[run] = $3; turns[run] = $4; rest[run] = $4 - turn; if (first[run] == "") first[run] = $3; next }
+$1 == "end" && NF == 4 { why[run] = $2; last[run] = $3; turns[run] = $4; rest[run] = $4 - turn; next }
 
 NF == 5 {
     row = $1 " " $2
     if (!(row in seen)) { seen[row] = 1; rows[++width] = row }
     accepted[run, row]++
     spent[run, row] += $5 - turn
-    if (size == "") first[run] = $4; else removed[run, row] += size - $4
+    if (size != "" && !((run, row) in unknown)) removed[run, row] += size - $4; else { unknown[run, row]; delete removed[run, row] }
     size = $4; turn = $5
     count[run]++
     at[run, count[run]] = $5; sized[run, count[run]] = $4
@@ -30,8 +31,8 @@ function sorted(    k, j, row) {
 function cells(run, row) { return sprintf("%8d %8d %9s", accepted[run, row], spent[run, row], (run, row) in removed ? removed[run, row] : "-") }
 
 function summary(run) {
-    printf "%s: size %d to %d (%d %%), %d accepted, %d turns, the last %d in vain, ended %s\n", name[run], first[run], last[run],
-        first[run] ? 100 * last[run] / first[run] : 0, count[run], turns[run], rest[run], why[run]
+    printf "%s: size %s to %d%s, %d accepted, %d turns, the last %d in vain, ended %s\n", name[run], first[run] == "" ? "unknown" : first[run], last[run],
+        first[run] ? sprintf(" (%d %%)", 100 * last[run] / first[run]) : "", count[run], turns[run], rest[run], why[run]
 }
 
 function table(    k, row) {
@@ -44,17 +45,20 @@ function table(    k, row) {
     }
 }
 
+# The first size of a run that is known.
+function begun(run) { return first[run] != "" ? first[run] : count[run] ? sized[run, 1] : last[run] }
+
 # The size of a run after so many turns.
 function size_at(run, turn,    k, found) {
-    found = first[run]
+    found = begun(run)
     for (k = 1; k <= count[run] && at[run, k] <= turn; k++) found = sized[run, k]
     return found
 }
 
-function most(list, a, b) { return run == "B" && list[b] > list[a] ? list[b] : list[a] }
+function most(a, b) { return run == "B" && b > a ? b : a }
 
 function picture(    tall, wide, x, y, high, long, line, a, b, mark) {
-    tall = 16; wide = 72; high = most(first, "A", "B"); long = most(turns, "A", "B")
+    tall = 16; wide = 72; high = most(begun("A"), begun("B")); long = most(turns["A"], turns["B"])
     if (high < 1) high = 1
     for (x = 0; x < wide; x++) {
         a[x] = int((tall - 1) * size_at("A", long * x / (wide - 1)) / high + 0.5)
@@ -77,7 +81,7 @@ function picture(    tall, wide, x, y, high, long, line, a, b, mark) {
 }
 
 function polyline(run, colour, high, long,    k, points) {
-    points = sprintf("60,%.1f", 380 - 360 * first[run] / high)
+    points = sprintf("60,%.1f", 380 - 360 * begun(run) / high)
     for (k = 1; k <= count[run]; k++)
         points = points sprintf(" %.1f,%.1f %.1f,%.1f", 60 + 700 * at[run, k] / long, 380 - 360 * size_at(run, at[run, k] - 1) / high,
             60 + 700 * at[run, k] / long, 380 - 360 * sized[run, k] / high)
@@ -88,7 +92,7 @@ function polyline(run, colour, high, long,    k, points) {
 function escaped(text) { gsub(/&/, "\\&amp;", text); gsub(/</, "\\&lt;", text); return text }
 
 function drawing(    high, long) {
-    high = most(first, "A", "B"); long = most(turns, "A", "B")
+    high = most(begun("A"), begun("B")); long = most(turns["A"], turns["B"])
     if (high < 1) high = 1
     if (long < 1) long = 1
     print "<svg xmlns=\"http://www.w3.org/2000/svg\" viewBox=\"0 0 800 440\" font-family=\"sans-serif\" font-size=\"14\">" >svg
