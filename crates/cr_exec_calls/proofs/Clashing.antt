@@ -157,7 +157,7 @@ meets_silent foot other ne = record {
 
 -- ---- one argument and the later ones
 
-at_end : (rest : List Held) → length rest ≡ 0 → rest ≡ []
+pub at_end : (rest : List Held) → length rest ≡ 0 → rest ≡ []
 at_end [] e = refl
 at_end (h ∷ rest) e = absurd (omega (arith, e))
 

@@ -4,3 +4,4 @@ pub mod Calling
 pub mod Taking
 pub mod Ending
 pub mod Printing
+pub mod Joining

@@ -25,7 +25,7 @@ use Rattle.cr_exec_calls.specs.declared.taken.Taken.{Taken}
 
 -- ---- none yet
 
-none_together : (number : ℕ) (foot : Foot) → sets foot ≡ no_events → AreTogether number [] foot
+pub none_together : (number : ℕ) (foot : Foot) → sets foot ≡ no_events → AreTogether number [] foot
 none_together number foot e = record { apart = apart_of; joined = joined_of }
   where
     apart_of : (answers : List Answer) → AllZip shows [] answers → operands_clash Arguments number (map events_of answers) ≡ false
@@ -75,7 +75,7 @@ takes_more all left rest given h before taken some e f adds v =
 -- ---- a conflict
 
 -- where the later arguments conflict all do
-clash_behind : (number : ℕ) (rest later : List Held) (answers : List Answer) → AllZip shows (rest ++ later) answers
+pub clash_behind : (number : ℕ) (rest later : List Held) (answers : List Answer) → AllZip shows (rest ++ later) answers
     → ((others : List Answer) → AllZip shows later others → operands_clash Arguments (length rest + number) (map events_of others) ≡ true)
     → operands_clash Arguments number (map events_of answers) ≡ true
 clash_behind number [] later answers z f = ap (λ (n : ℕ). operands_clash Arguments n (map events_of answers)) (omega arith) ∙ f answers z

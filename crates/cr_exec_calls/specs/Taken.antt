@@ -25,6 +25,11 @@ pub record AddsArgument (given : Part) (later : Taken) (result : Result Taken Tr
   pub adds : (number : ℕ) (events : List Event) (rest : List (List Event)) → IsFootOf given.foot events → IsFootOf later.foot (gathered Arguments (suc number) rest)
       → Argues number events rest (footed result)
 
+-- the same of an argument's answer
+pub record AddsHeld (held : Held) (later : Foot) (result : Result Foot Trap) : Type 0 where
+  pub adds : (number : ℕ) (answer : Answer) (rest : List (List Event)) → shows held answer → IsFootOf later (gathered Arguments (suc number) rest)
+      → Argues number (events_of answer) rest result
+
 -- arguments from a number on, of which no two conflict, and the footprint of their events
 pub record AreTogether (number : ℕ) (done : List Held) (foot : Foot) : Type 0 where
   pub apart : (answers : List Answer) → AllZip shows done answers → operands_clash Arguments number (map events_of answers) ≡ false
@@ -55,3 +60,9 @@ pub record TakesSome (all left : List Held) (taken : Taken) : Type 0 where
   pub whole : all ≡ left ++ later
   pub values : reverse taken.values.items ≡ values_in later
   pub together : AreTogether (length left) later taken.foot
+
+-- the last ones, of which no two conflict, and the footprint of their events
+pub record LastTogether (all left : List Held) (foot : Foot) : Type 0 where
+  pub later : List Held
+  pub whole : all ≡ left ++ later
+  pub together : (number : ℕ) → AreTogether number later foot

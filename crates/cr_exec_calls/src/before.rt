@@ -115,7 +115,10 @@ fn called(
     ensures work { (callee : SpecCallee) (answers : List Answer) → AllZip shows done.now answers → Worked (called (program_of table.now) node (Call callee) parameters.now answers (world_of world.old)) result (world_of world.new) }
     ensures steps { world.new.steps ≡ world.old.steps }
 {
-    if clashes(done) {
+    let Ok(found) = clashes(alloc, done) else {
+        return Err(Halted::NoMemory);
+    };
+    if found {
         return Err(Halted::Undefined(UNSEQUENCED, node));
     }
     match arguments(alloc, &world.store, parameters, done) {

@@ -1,12 +1,19 @@
 // Conflicts between the arguments of a call, of which no one is sequenced before another (C11 6.5.2.2p10).
-ghost use Rattle.std.specs.Prelude.{◌≡◌, true, false, MatchBool};
+ghost use Rattle.std.specs.Prelude.{◌≡◌, true, false, MatchBool, IfOk};
 ghost use Rattle.std.specs.List.{list_any};
 ghost use Rattle.cr_footprint.specs.Cell.{Cell, holds, IsRising};
 ghost use Rattle.cr_footprint.specs.Foot.{sets, meets};
 ghost use Rattle.cr_exec_calls.specs.Clashes.{hits, MeetsOne, MeetsAny, MeetsLater, Clashes};
+ghost use Rattle.cr_exec_calls.specs.Taken.{AddsHeld};
 
+use cr_eval_join::argument;
 use cr_exec_turns::Held;
 use cr_footprint::Foot;
+use cr_memory::Trap;
+use std::alloc::{AllocError, Global};
+
+/// Up to so many arguments are compared pair by pair; more are joined, from the last one backwards.
+const FEW: usize = 16;
 
 /// Whether a list in rising order has some of these cells.
 fn has_some(rising: &[(u32, u32)], cells: &[(u32, u32)]) -> bool
@@ -69,8 +76,8 @@ fn meets_later(argument: &Held, later: &[Held]) -> bool
     }
 }
 
-/// Whether events of two arguments conflict.
-pub(crate) fn clashes(done: &[Held]) -> bool
+/// Whether events of two arguments conflict, pair by pair.
+fn clash_in_pairs(done: &[Held]) -> bool
     ensures { Clashes done.now result }
 {
     let mut rest = done;
@@ -81,4 +88,45 @@ pub(crate) fn clashes(done: &[Held]) -> bool
         rest = later;
     }
     false
+}
+
+/// An argument's events before those of the later ones: U12. `NoMemory` also where it is no expression's answer.
+fn with_argument(alloc: Global, held: &Held, later: Foot) -> Result<Foot, Trap>
+    ensures { AddsHeld held.now later result }
+{
+    let Held::Part(part) = held else {
+        return Err(Trap::NoMemory);
+    };
+    match part.foot.copied() {
+        Ok(foot) => argument(alloc, foot, later),
+        Err(_) => Err(Trap::NoMemory),
+    }
+}
+
+/// Whether events of two arguments conflict, where all are joined: each costs by its own cells.
+fn clash_joined(alloc: Global, done: &[Held]) -> Result<bool, AllocError>
+    ensures { IfOk result (λ found. Clashes done.now found) }
+{
+    let mut later = Foot::none(alloc);
+    let mut left = done;
+    while let Some((held, before)) = left.split_last() {
+        later = match with_argument(alloc, held, later) {
+            Ok(foot) => foot,
+            Err(Trap::Undefined(_)) => return Ok(true),
+            Err(_) => return Err(AllocError),
+        };
+        left = before;
+    }
+    Ok(false)
+}
+
+/// Whether events of two arguments conflict. The error is want of memory, or an answer that is no expression's.
+pub(crate) fn clashes(alloc: Global, done: &[Held]) -> Result<bool, AllocError>
+    ensures { IfOk result (λ found. Clashes done.now found) }
+{
+    if done.len() <= FEW {
+        Ok(clash_in_pairs(done))
+    } else {
+        clash_joined(alloc, done)
+    }
 }

@@ -61,9 +61,14 @@ fn element(kind: Scalar, cell: Cell) -> Result<Cell, Trap>
     }
 }
 
-/// An object's cells as elements of these kinds, as far as there is room.
+/// An object's cells as elements of these kinds, as far as there is room, one by one.
 #[tactic(auto, using(crate::proofs::Elements::one_more, crate::proofs::Elements::none_left))]
-fn elements(alloc: Global, store: &Store, object: u32, kinds: &[Scalar]) -> Result<Row<Cell>, Trap>
+fn elements_each(
+    alloc: Global,
+    store: &Store,
+    object: u32,
+    kinds: &[Scalar],
+) -> Result<Row<Cell>, Trap>
     ensures { Answers (Ok (elements_of kinds.now (some_object (live_object store.now object)).cells)) result }
 {
     let mut cells = Vec::new(alloc);
@@ -87,6 +92,38 @@ fn elements(alloc: Global, store: &Store, object: u32, kinds: &[Scalar]) -> Resu
         kinds_left = more;
     }
     Ok(Row::from_vec(cells))
+}
+
+/// The same of cells that stand one behind another.
+fn elements_of_run(alloc: Global, run: &[Cell], kinds: &[Scalar]) -> Result<Row<Cell>, Trap>
+    ensures { Answers (Ok (elements_of kinds.now run.now)) result }
+{
+    let mut cells = Vec::new(alloc);
+    let (mut kinds_left, mut left) = (kinds, run);
+    while let [kind, more @ ..] = kinds_left {
+        let [cell, others @ ..] = left else {
+            return Ok(Row::from_vec(cells));
+        };
+        let Ok(new) = element(*kind, *cell) else {
+            return Err(Trap::NoMemory);
+        };
+        let Ok(()) = cells.push(new) else {
+            return Err(Trap::NoMemory);
+        };
+        kinds_left = more;
+        left = others;
+    }
+    Ok(Row::from_vec(cells))
+}
+
+/// An object's cells as elements of these kinds, as far as there is room. They mostly stand one behind another.
+fn elements(alloc: Global, store: &Store, object: u32, kinds: &[Scalar]) -> Result<Row<Cell>, Trap>
+    ensures { Answers (Ok (elements_of kinds.now (some_object (live_object store.now object)).cells)) result }
+{
+    match store.run_of(object) {
+        Some(run) => elements_of_run(alloc, run, kinds),
+        None => elements_each(alloc, store, object, kinds),
+    }
 }
 
 /// A string literal's chars as the elements of an array of this type, as far as there is room (6.7.9p14).

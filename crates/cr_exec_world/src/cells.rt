@@ -1,54 +1,26 @@
 // The cells of an object, set whatever their guards.
-ghost use Rattle.std.specs.Prelude.{◌≡◌, Ok, [], ◌∷◌, map, IsTrue, IfOk};
+ghost use Rattle.std.specs.Prelude.{◌≡◌, Ok, true, false, [], ◌∷◌, map, IsTrue, IfOk};
 ghost use Rattle.cr_memory.specs.Memory.{zero_of};
 ghost use Rattle.cr_memory.specs.Access.{with_cells};
 ghost use Rattle.cr_eval.specs.Answers.{Answers, leaving};
 ghost use Rattle.cr_meaning.specs.World.{unset_again};
-ghost use Rattle.cr_exec_world.specs.Cells.{set_each};
 
 use cr_memory::{Cell, Guard, Pointer, Scalar, Store, Trap};
 use cr_sequence::Times;
 use std::alloc::{AllocError, Global};
 
-/// Sets one cell of a live object.
-fn write_one(store: &mut Store, object: u32, place: u32, cell: Cell) -> Result<(), Trap>
-    ensures { Answers (Ok (with_cells store.old object place (cell ∷ []))) (leaving store.new result) }
-{
-    let Some(kind) = store.kind_of(object, place) else {
-        return Err(Trap::NoMemory);
-    };
-    if !store.holds(kind, cell) {
-        return Err(Trap::NoMemory);
-    }
-    store.begin(object, place, cell);
-    Ok(())
-}
-
-/// Sets one cell after another.
-fn write_each(store: &mut Store, object: u32, from: u32, cells: &[Cell]) -> Result<(), Trap>
-    ensures { Answers (Ok (set_each store.old object from cells.now)) (leaving store.new result) }
-{
-    let mut place = from;
-    let mut rest = cells;
-    while let [cell, more @ ..] = rest {
-        write_one(store, object, place, *cell)?;
-        let Some(after) = place.checked_add(1) else {
-            return Err(Trap::NoMemory);
-        };
-        place = after;
-        rest = more;
-    }
-    Ok(())
-}
+/// An object of no more cells isn't large: its zeros are spelled out.
+const LARGE: usize = 1024;
 
 /// Sets cells of a live object from a place on. The error is want of memory, or cells that no program of the subset has.
 pub fn write(store: &mut Store, object: u32, from: u32, cells: &[Cell]) -> Result<(), Trap>
     ensures { Answers (Ok (with_cells store.old object from cells.now)) (leaving store.new result) }
 {
-    if !store.is_live(object) {
-        return Err(Trap::NoMemory);
+    if store.begin_run(object, from, cells) {
+        Ok(())
+    } else {
+        Err(Trap::NoMemory)
     }
-    write_each(store, object, from, cells)
 }
 
 /// Nothing is in the cells of an object again (C11 6.2.4p6).
@@ -84,6 +56,23 @@ fn zeros(alloc: Global, shape: &Times<(Scalar, Guard)>) -> Result<Vec<Cell>, All
     Times::new(zeros_of(alloc, one)?, times)?.spelled(alloc)
 }
 
+/// The same of a large object, where it has elements of this shape: by the shape's cells and the object's blocks alone.
+fn blank_large(
+    alloc: Global,
+    shape: &Times<(Scalar, Guard)>,
+    store: &mut Store,
+    object: u32,
+) -> bool
+    ensures done { result ≡ true → store.new ≡ with_cells store.old object 0 (map (λ own. zero_of own.0) shape.now) }
+    ensures same { result ≡ false → store.new ≡ store.old }
+{
+    let (one, times) = shape.parts();
+    match zeros_of(alloc, one) {
+        Ok(pattern) => store.refill(object, pattern, times),
+        Err(_) => false,
+    }
+}
+
 /// The cells of a node's object are zero or null (6.7.9p10, p19).
 pub fn blank(
     alloc: Global,
@@ -93,6 +82,9 @@ pub fn blank(
 ) -> Result<(), Trap>
     ensures { Answers (Ok (with_cells store.old object 0 (map (λ own. zero_of own.0) shape.now))) (leaving store.new result) }
 {
+    if shape.len() > LARGE && blank_large(alloc, shape, store, object) {
+        return Ok(());
+    }
     match zeros(alloc, shape) {
         Ok(cells) => write(store, object, 0, &cells),
         Err(_) => Err(Trap::NoMemory),

@@ -91,6 +91,14 @@ impl Cells {
         self.list.allocator()
     }
 
+    /// A set of the same cells.
+    pub fn copied(&self) -> Result<Cells, AllocError>
+        ensures { IfOk result (λ set. set.list ≡ self.now.list) }
+    {
+        let list = self.list.copied()?;
+        Ok(Cells { list })
+    }
+
     /// The cells, in rising order.
     pub fn as_slice(&self) -> &[(u32, u32)]
         ensures rising { IsRising result.now }

@@ -67,6 +67,17 @@ impl Foot {
         })
     }
 
+    /// The same footprint once more.
+    pub fn copied(&self) -> Result<Foot, NoMemory>
+        ensures { IfOk result (λ foot. sets foot ≡ sets self.now) }
+    {
+        Ok(Foot {
+            reads: self.reads.copied()?,
+            writes: self.writes.copied()?,
+            opens: self.opens.copied()?,
+        })
+    }
+
     /// The cells that are read, in rising order. Takes no memory.
     pub fn reads(&self) -> &[(u32, u32)]
         ensures rising { IsRising result.now }

@@ -57,6 +57,15 @@ fn boxed(alloc: Global, cells: Several) -> Result<Box<Several>, AllocError>
     }
 }
 
+/// A list of these cells.
+fn several(alloc: Global, cells: &[(u32, u32)]) -> Result<Several, AllocError>
+    ensures { IfOk result (λ list. list.items ≡ cells.now) }
+{
+    let mut list = SmallVec::with_capacity(alloc, cells.len())?;
+    list.extend_from_slice(cells)?;
+    Ok(list)
+}
+
 /// A cell and another one, at a place beside it.
 fn two(
     alloc: Global,
@@ -107,6 +116,18 @@ impl CellList {
 
     pub(crate) fn allocator(&self) -> Global {
         self.alloc
+    }
+
+    pub(crate) fn copied(&self) -> Result<CellList, AllocError>
+        ensures { IfOk result (λ list. list ≡ self.now) }
+    {
+        let alloc = self.alloc;
+        let kept = match &self.kept {
+            Kept::Nothing => Kept::Nothing,
+            Kept::One(cell) => Kept::One(*cell),
+            Kept::More(list) => Kept::More(boxed(alloc, several(alloc, list.as_slice())?)?),
+        };
+        Ok(CellList { alloc, kept })
     }
 
     #[inline]

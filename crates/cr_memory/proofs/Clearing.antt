@@ -10,11 +10,11 @@ use Rattle.cr_memory.specs.declared.span.Span.{Span}
 use Rattle.cr_memory.specs.Memory.{KeepsPointers, live_object, count_of}
 use Rattle.cr_memory.specs.Access.{with_cells, overwritten}
 use Rattle.cr_memory.specs.Continues.{Continues}
-use Rattle.cr_memory.specs.Flat.{span_at, memory_of, IsStored}
+use Rattle.cr_memory.specs.Flat.{span_at, memory_of, IsStored, RunHolds}
 use Rattle.cr_memory.proofs.Repeating.{replicated, length-one}
 use Rattle.cr_memory.proofs.Overwriting.{length-overwritten, filled-overwritten}
 use Rattle.cr_memory.proofs.View.{object_of-live, length-whole_of, live_object-memory_of}
-use Rattle.cr_memory.proofs.Writing.{RunHolds, entered_if_alive, held_overwritten, memory_of-overwritten, same_pointers, stored_with}
+use Rattle.cr_memory.proofs.Writing.{entered_if_alive, held_overwritten, memory_of-overwritten, same_pointers, stored_with}
 use Rattle.cr_memory.proofs.Continuing.{written-continues}
 
 unset_held : (spans : List Span) (shape : List (Scalar × Guard)) (place count : ℕ) → RunHolds spans shape place (repeated count (Unset ∷ []))

@@ -14,3 +14,4 @@ pub mod Ending
 pub mod Moving
 pub mod Continuing
 pub mod Loading
+pub mod Beginning

@@ -16,14 +16,14 @@ use Rattle.cr_memory.specs.declared.span.Span.{Span}
 use Rattle.cr_memory.specs.Kind.{is_same}
 use Rattle.cr_memory.specs.Memory.{Memory, AllHold, KeepsPointers, has_ended}
 use Rattle.cr_memory.specs.Access.{is_null_or_end, is_literal, is_constant, number_of, cell_of, shape_run_at, have_kinds, have_same_kinds, overwritten, with_cells, writing, save_of, put_of, copy_of, Writes, HasStride}
-use Rattle.cr_memory.specs.Flat.{span_at, memory_of, ended_in, index_of, cell_or, shape_or, PointerIn, HoldsIn, HasRoom, IsStored, flat_save, flat_put, flat_copy}
+use Rattle.cr_memory.specs.Flat.{span_at, memory_of, ended_in, index_of, cell_or, shape_or, PointerIn, HoldsIn, HasRoom, IsStored, RunHolds, flat_save, flat_put, flat_copy}
 use Rattle.cr_memory.specs.Continues.{Continues}
 use Rattle.cr_memory.proofs.Continuing.{written-continues}
 use Rattle.cr_memory.proofs.View.{has_ended-memory_of, holds_seen}
 use Rattle.cr_memory.proofs.Overwriting.{length-overwritten}
 use Rattle.cr_memory.proofs.Reaching.{alive_from, same_kinds, reached, reached_run, stride_fits, both_true}
 use Rattle.cr_memory.proofs.Comparing.{either_ended, neither}
-use Rattle.cr_memory.proofs.Writing.{memory_of-overwritten, stored_with, same_pointers, held_overwritten, RunHolds}
+use Rattle.cr_memory.proofs.Writing.{memory_of-overwritten, stored_with, same_pointers, held_overwritten}
 
 -- ---- the cases of a write, in order
 

@@ -11,7 +11,7 @@ use Rattle.cr_memory.specs.declared.value.Guard.TheVariants.{Free}
 use Rattle.cr_memory.specs.declared.span.Span.{Span}
 use Rattle.cr_memory.specs.Memory.{Object, Memory, Holds, KeepsPointers, live_object, count_of}
 use Rattle.cr_memory.specs.Access.{overwritten, some_object, shape_in, with_cells}
-use Rattle.cr_memory.specs.Flat.{ended_span, span_at, object_of, memory_of, shape_or, cell_or, HoldsIn, HasRoom, IsStored}
+use Rattle.cr_memory.specs.Flat.{ended_span, span_at, object_of, memory_of, shape_or, cell_or, HoldsIn, HasRoom, IsStored, RunHolds}
 use Rattle.cr_memory.proofs.View.{two_ways, whole_of, length-whole_of, object_of-live, object_of-ended, live_object-memory_of, pointer_in, is_pointer, holds_in}
 
 -- ---- a window of a list that is written over
@@ -144,11 +144,6 @@ same_or_not zero zero = inl refl
 same_or_not zero (suc n) = inr (λ e. cc e)
 same_or_not (suc m) zero = inr (λ e. cc e)
 same_or_not (suc m) (suc n) = elim (same_or_not m n) [ inl e ↦ inl (ap suc e) | inr h ↦ inr (λ e. h (cc e)) ]
-
--- values that the cells from a place on may hold
-abbrev pub RunHolds : List Span → List (Scalar × Guard) → ℕ → List Cell → Type 0
-RunHolds spans shape place [] = Unit {0}
-RunHolds spans shape place (v ∷ vs) = HoldsIn spans (shape_or shape place).0 v × RunHolds spans shape (suc place) vs
 
 pub held_overwritten : (spans : List Span) (cells : List Cell) (shape : List (Scalar × Guard)) (place : ℕ) (vs : List Cell)
     → ((i : ℕ) → i < length cells → HoldsIn spans (shape_or shape i).0 (cell_or cells i)) → RunHolds spans shape place vs

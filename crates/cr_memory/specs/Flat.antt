@@ -1,5 +1,5 @@
 -- How the store keeps a memory: the cells of all objects one after another, and for each object the span of its cells.
-use Rattle.std.specs.Prelude.{◌≡◌, ℕ, ◌+◌, ◌-◌, ◌%◌, sum_by, ◌<◌, ◌≤◌, Bool, true, false, not, ◌⊎◌, Option, Some, None, Result, List, map, length, take, drop, slice_index_or, slice_set, if◌then◌else◌}
+use Rattle.std.specs.Prelude.{◌≡◌, ℕ, suc, ◌+◌, ◌-◌, ◌%◌, sum_by, ◌<◌, ◌≤◌, Bool, true, false, not, ◌⊎◌, Option, Some, None, Result, List, [], ◌∷◌, map, length, take, drop, slice_index_or, slice_set, if◌then◌else◌}
 use Rattle.cr_ints.specs.IntKind.{Represents}
 use Rattle.cr_memory.specs.declared.value.Pointer.{Pointer}
 use Rattle.cr_memory.specs.declared.value.Pointer.TheVariants.{Null, At}
@@ -70,6 +70,24 @@ HoldsIn spans (IntegerKind kind) (PointerCell pointer) = ⊥
 HoldsIn spans (PointerKind to) (Number value) = ⊥
 HoldsIn spans (PointerKind to) (PointerCell pointer) = PointerIn spans pointer
 
+-- what stands at a place of the flat store
+abbrev pub cell_or : List Cell → ℕ → Cell
+cell_or cells index = slice_index_or cells index Unset
+
+abbrev pub shape_or : List (Scalar × Guard) → ℕ → Scalar × Guard
+shape_or shape index = slice_index_or shape index (PointerKind 0, Free)
+
+-- the cells of these kinds may hold these values
+abbrev pub OwnHold : List Span → List (Scalar × Guard) → List Cell → Type 0
+OwnHold spans shape [] = Unit {0}
+OwnHold spans [] (value ∷ values) = ⊥
+OwnHold spans (own ∷ shape) (value ∷ values) = HoldsIn spans own.0 value × OwnHold spans shape values
+
+-- values that the cells from a place on may hold
+abbrev pub RunHolds : List Span → List (Scalar × Guard) → ℕ → List Cell → Type 0
+RunHolds spans shape place [] = Unit {0}
+RunHolds spans shape place (v ∷ vs) = HoldsIn spans (shape_or shape place).0 v × RunHolds spans shape (suc place) vs
+
 -- a pointer that isn't null stands at or after the beginning of its array, and its elements have cells
 abbrev pub HasSubscript : Pointer → Type 0
 HasSubscript Null = Unit {0}
@@ -78,13 +96,6 @@ HasSubscript (At object cell low high stride) = (low ≤ cell) × (1 ≤ stride)
 -- each live span lies among so many cells
 pub record HasRoom (spans : List Span) (room : ℕ) : Type 0 where
   pub within : (number : ℕ) → (span_at spans number).alive ≡ true → (span_at spans number).first + (span_at spans number).count ≤ room
-
--- what stands at a place of the flat store
-abbrev pub cell_or : List Cell → ℕ → Cell
-cell_or cells index = slice_index_or cells index Unset
-
-abbrev pub shape_or : List (Scalar × Guard) → ℕ → Scalar × Guard
-shape_or shape index = slice_index_or shape index (PointerKind 0, Free)
 
 abbrev pub span_count : Span → ℕ
 span_count span = if span.alive then span.count else 0
@@ -170,3 +181,10 @@ pub record MovesDown (spans : List Span) (cells : List Cell) (shape : List (Scal
   pub in_cells : cells' ≡ overwritten cells to (take (span_at spans number).count (drop (span_at spans number).first cells))
   pub in_shape : shape' ≡ overwritten shape to (take (span_at spans number).count (drop (span_at spans number).first shape))
   pub ends : end ≡ to + (span_at spans number).count
+
+-- cells of a live object from a place on hold these values now
+pub record Began (spans : List Span) (cells : List Cell) (shape : List (Scalar × Guard)) (object from : ℕ) (values cells' : List Cell) : Type 0 where
+  pub alive : (span_at spans object).alive ≡ true
+  pub fits : from + length values ≤ (span_at spans object).count
+  pub held : RunHolds spans shape ((span_at spans object).first + from) values
+  pub is : cells' ≡ overwritten cells ((span_at spans object).first + from) values

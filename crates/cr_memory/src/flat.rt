@@ -1,10 +1,11 @@
 ghost use Rattle.std.specs.Prelude.{◌≡◌, ◌<◌, ◌≤◌, ◌↔◌, ℕ, ◌+◌, length, true, false, map, take, drop, slice_set, Ok, IsTrue, IfNone, IfSome, IfOk};
 ghost use Rattle.std.specs.List.{list_any};
+ghost use Rattle.cr_sequence.specs.Kept.{repeated};
 ghost use Rattle.cr_sequence.specs.Stretches.{filled};
 ghost use Rattle.cr_memory.specs.Kind.{is_same};
 ghost use Rattle.cr_memory.specs.Access.{is_null_or_end, is_unset, is_literal, is_constant, have_kinds, have_same_kinds, overwritten, reaching, reach_by, Writes, Reads, HasStride};
 ghost use Rattle.cr_memory.specs.Pointers.{is_in_literal};
-ghost use Rattle.cr_memory.specs.Flat.{span_at, ended_in, held_ended_in, index_of, own_in, PlaceIn, PointerIn, HoldsIn, HasRoom, cell_or, shape_or, flat_load, flat_save, flat_put, flat_copy, flat_cells};
+ghost use Rattle.cr_memory.specs.Flat.{span_at, ended_in, held_ended_in, index_of, own_in, PlaceIn, PointerIn, HoldsIn, OwnHold, RunHolds, Began, HasRoom, cell_or, shape_or, flat_load, flat_save, flat_put, flat_copy, flat_cells};
 
 use crate::spans::Spans;
 use crate::value::{
@@ -524,6 +525,156 @@ pub(crate) fn begin(spans: &Spans, cells: &mut Sequence<Cell>, object: u32, cell
 {
     let at = place_in(cells.len(), spans.get(object).first, cell as usize);
     cells.set(at, value);
+}
+
+/// Whether cells of these kinds may hold these values.
+fn own_hold(spans: &Spans, own: &[(Scalar, Guard)], values: &[Cell]) -> bool
+    ensures { result ≡ true → OwnHold spans.now own.now values.now }
+{
+    let (mut own_left, mut left) = (own, values);
+    while let [value, more @ ..] = left {
+        let [kind, others @ ..] = own_left else {
+            return false;
+        };
+        if !holds(spans, kind.0, *value) {
+            return false;
+        }
+        own_left = others;
+        left = more;
+    }
+    true
+}
+
+/// The same of the cells from a place on, wherever they stand.
+#[inline(never)]
+fn each_holds(
+    spans: &Spans,
+    shape: &Sequence<(Scalar, Guard)>,
+    first: usize,
+    values: &[Cell],
+) -> bool
+    requires { first + length values.now ≤ length shape.now }
+    ensures { result ≡ true → RunHolds spans.now shape.now first values.now }
+{
+    let (mut count, mut left) = (0, values);
+    while let [value, more @ ..] = left {
+        let own = own_at(shape, place_in(shape.len(), first, count));
+        if !holds(spans, own.0, *value) {
+            return false;
+        }
+        count += 1;
+        left = more;
+    }
+    true
+}
+
+#[inline]
+fn run_holds(
+    spans: &Spans,
+    shape: &Sequence<(Scalar, Guard)>,
+    first: usize,
+    values: &[Cell],
+) -> bool
+    requires { first + length values.now ≤ length shape.now }
+    ensures { result ≡ true → RunHolds spans.now shape.now first values.now }
+{
+    match shape.run(first, values.len()) {
+        Some(own) => own_hold(spans, own, values),
+        None => each_holds(spans, shape, first, values),
+    }
+}
+
+/// Whether so many cells from a place on are among those of an object.
+#[inline]
+fn fits(count: u32, from: u32, more: usize) -> bool
+    ensures { result ≡ true → from + more ≤ count }
+{
+    from <= count && more <= (count - from) as usize
+}
+
+/// Sets cells of a live object from a place on, whatever their guards, where it has them and they may hold the values; else nothing changes.
+pub(crate) fn begin_run(
+    spans: &Spans,
+    cells: &mut Sequence<Cell>,
+    shape: &Sequence<(Scalar, Guard)>,
+    object: u32,
+    from: u32,
+    values: &[Cell],
+) -> bool
+    requires room { HasRoom spans.now (length cells.old) }
+    requires same_length { length shape.now ≡ length cells.old }
+    ensures done { result ≡ true → Began spans.now cells.old shape.now object from values.now cells.new }
+    ensures same { result ≡ false → cells.new ≡ cells.old }
+{
+    let span = spans.get(object);
+    if !span.alive || !fits(span.count, from, values.len()) {
+        return false;
+    }
+    let first = place_in(cells.len(), span.first, from as usize);
+    if !run_holds(spans, shape, first, values) {
+        return false;
+    }
+    write_over(cells, first, values);
+    true
+}
+
+/// The cells of a live object, where they stand plain.
+pub(crate) fn run_of<'a>(
+    spans: &Spans,
+    cells: &'a Sequence<Cell>,
+    object: u32,
+) -> Option<&'a [Cell]>
+    ensures { IfSome result (λ run. ((span_at spans.now object).alive ≡ true)
+        × (run.now ≡ take (span_at spans.now object).count (drop (span_at spans.now object).first cells.now))) }
+{
+    let span = spans.get(object);
+    if !span.alive {
+        return None;
+    }
+    cells.run(span.first, span.count as usize)
+}
+
+/// How often which pattern of kinds comes in a live large object.
+fn pattern_of<'a>(
+    spans: &Spans,
+    shape: &'a Sequence<(Scalar, Guard)>,
+    object: u32,
+) -> Option<(&'a [(Scalar, Guard)], usize)>
+    ensures { IfSome result (λ p. ((span_at spans.now object).alive ≡ true)
+        × (repeated p.1 p.0.now ≡ take (span_at spans.now object).count (drop (span_at spans.now object).first shape.now))) }
+{
+    let span = spans.get(object);
+    if !span.alive {
+        return None;
+    }
+    shape.pattern(span.first, span.count as usize)
+}
+
+/// Sets all cells of a live large object to a pattern that comes so many times, whatever their guards, where they may hold it; else nothing
+/// changes.
+pub(crate) fn refill(
+    spans: &Spans,
+    cells: &mut Sequence<Cell>,
+    shape: &Sequence<(Scalar, Guard)>,
+    object: u32,
+    pattern: Vec<Cell>,
+    times: u32,
+) -> bool
+    requires room { HasRoom spans.now (length cells.old) }
+    requires same_length { length shape.now ≡ length cells.old }
+    ensures done { result ≡ true → Began spans.now cells.old shape.now object 0 (repeated times pattern.items) cells.new }
+    ensures same { result ≡ false → cells.new ≡ cells.old }
+{
+    let Some((own, often)) = pattern_of(spans, shape, object) else {
+        return false;
+    };
+    if often != times as usize || own.len() != pattern.len() || pattern.len() == 0 {
+        return false;
+    }
+    if !own_hold(spans, own, pattern.as_slice()) {
+        return false;
+    }
+    cells.refill(spans.get(object).first, pattern, often)
 }
 
 /// Whether a pointer names an object that was entered, into an array of whole elements, within its cells where it lives.

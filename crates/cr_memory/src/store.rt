@@ -1,6 +1,6 @@
-ghost use Rattle.std.specs.Prelude.{◌≡◌, ◌<◌, ◌≤◌, ◌↔◌, [], ◌∷◌, false, length, is_some, IsSome, IsTrue, IfSome, IfNone, ◌⊎◌, IfOk, IfErr, OnErr, replicate};
+ghost use Rattle.std.specs.Prelude.{◌≡◌, ◌<◌, ◌≤◌, ◌↔◌, [], ◌∷◌, true, false, length, is_some, IsSome, IsTrue, IfSome, IfNone, ◌⊎◌, IfOk, IfErr, OnErr, replicate};
 ghost use Rattle.cr_memory.specs.Memory.{IsPointer, Holds, AllHold, KeepsPointers, live_object, count_of, has_room, new_object, with_object, without_object};
-ghost use Rattle.cr_memory.specs.Access.{reach_of, load_of, save_of, put_of, copy_of, cells_of, shape_in, with_cells, Writes, Reads, HasStride};
+ghost use Rattle.cr_memory.specs.Access.{reach_of, load_of, save_of, put_of, copy_of, cells_of, some_object, shape_in, with_cells, Writes, Reads, HasStride};
 ghost use Rattle.cr_memory.specs.Pointers.{shift_of, differ_of, less_of, same_of};
 ghost use Rattle.cr_memory.specs.Continues.{Continues, ContinuesBeside};
 ghost use Rattle.cr_memory.specs.Laws.{HoldsKinds};
@@ -160,6 +160,49 @@ impl Store {
         ensures continues { Continues self.old self.new }
     {
         flat::begin(&self.spans, &mut self.cells, object, cell, value)
+    }
+
+    /// Initialises cells of a live object from a place on, whatever their guards (6.7.9), where it has them and each may hold its value; else
+    /// nothing changes.
+    pub fn begin_run(&mut self, object: u32, from: u32, cells: &[Cell]) -> bool
+        ensures begun { result ≡ true → self.new ≡ with_cells self.old object from cells.now }
+        ensures same { result ≡ false → self.new ≡ self.old }
+        ensures kept { KeepsPointers self.old self.new }
+        ensures continues { Continues self.old self.new }
+    {
+        flat::begin_run(
+            &self.spans,
+            &mut self.cells,
+            &self.shape,
+            object,
+            from,
+            cells,
+        )
+    }
+
+    /// The cells of a live object, where they stand plain one behind another.
+    pub fn run_of(&self, object: u32) -> Option<&[Cell]>
+        ensures { IfSome result (λ run. run.now ≡ (some_object (live_object self.now object)).cells) }
+    {
+        flat::run_of(&self.spans, &self.cells, object)
+    }
+
+    /// Initialises all cells of a live large object by a pattern that comes so many times, whatever their guards (6.7.9), where they may hold
+    /// it; else nothing changes. It takes a step for each cell of the pattern and each block of the object.
+    pub fn refill(&mut self, object: u32, pattern: Vec<Cell>, times: u32) -> bool
+        ensures begun { result ≡ true → self.new ≡ with_cells self.old object 0 (repeated times pattern.items) }
+        ensures same { result ≡ false → self.new ≡ self.old }
+        ensures kept { KeepsPointers self.old self.new }
+        ensures continues { Continues self.old self.new }
+    {
+        flat::refill(
+            &self.spans,
+            &mut self.cells,
+            &self.shape,
+            object,
+            pattern,
+            times,
+        )
     }
 
     /// Enters an object, its cells zero or null where `zero`, and else unset. N3: `Left(3)` comes exactly where more cells

@@ -10,6 +10,15 @@ pub none_used : (xs : List (Option ℕ)) → ((k : ℕ) → get_or xs k None ≡
 none_used [] h = refl
 none_used (x ∷ xs) h = omega (arith, sum_by-cons used x xs, ap used (h 0), none_used xs (λ k. h (suc k)))
 
+-- where nothing is in the pool, no block is made
+pub none_made : (blocks : List (Option ℕ)) (then : ℕ) → ((block number : ℕ) → get_or blocks block None ≡ Some number → number * 256 + 256 ≤ then) → then ≡ 0
+    → (block : ℕ) → get_or blocks block None ≡ None
+none_made blocks then below e block = by_own (get_or blocks block None) (below block)
+  where
+    by_own : (own : Option ℕ) → ((number : ℕ) → own ≡ Some number → number * 256 + 256 ≤ then) → own ≡ None
+    by_own None h = refl
+    by_own (Some number) h = let b = h number refl in absurd (omega arith)
+
 used_le : (xs : List (Option ℕ)) → sum_by used xs ≤ length xs
 used_le [] = omega arith
 used_le (None ∷ xs) = omega (arith, sum_by-cons used None xs, used_le xs)

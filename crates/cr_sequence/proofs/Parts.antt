@@ -9,7 +9,7 @@ use Rattle.cr_sequence.specs.Kept.{repeated}
 use Rattle.std.proofs.lemmas.List.{length-map, take-append-drop, drop_more, length-take-le, take_more, take_all, take-set-le, take-append-le, get_or_append_left, get_or-append_right, set-append_left, set-append_right}
 use Rattle.std.proofs.lemmas.Option.{slice_get_within, slice_get-get_or, get_or_from_slice_get}
 use Rattle.cr_sequence.specs.declared.sequence.Part.{Part}
-use Rattle.cr_sequence.specs.Stretches.{items_in, all_items, AreCounted, BeginsBy, BeginsFrom, Holds, Placed, Changes, ChangesTo, Done, filled}
+use Rattle.cr_sequence.specs.Stretches.{items_in, all_items, AreCounted, BeginsBy, BeginsFrom, Holds, Placed, Changes, ChangesTo, Done, filled, replaced}
 
 -- the items of the parts before one
 abbrev pub before : {X : Type 0} → List (Part X) → ℕ → List X
@@ -504,7 +504,7 @@ stretch_done count size flat parts part own counted start is e few =
 
 -- ---- one part by what an index reads
 
-own_part : {Y : Type 0} (xs : List Y) (n : ℕ) (own : Y) → n < length xs → own ≡ get_or xs n own → slice_get xs n ≡ Some own
+pub own_part : {Y : Type 0} (xs : List Y) (n : ℕ) (own : Y) → n < length xs → own ≡ get_or xs n own → slice_get xs n ≡ Some own
 own_part xs n own h e = slice_get-get_or xs n own h ∙ ap Some (sym e)
 
 pub one_part : {Y : Type 0} (xs : List Y) (n : ℕ) (own y : Y) → n < length xs → own ≡ get_or xs n own → slice_get xs n ≡ Some y → own ≡ y
@@ -620,6 +620,77 @@ fill_done {X = X} count flat parts then from size number place value counted h p
     ∙ filled_middle xs own (more ++ rest) value in
     let sizes : length (items_in change.new) ≡ length (items_in part.0) =
     ap length change.shows ∙ length-append new_own more ∙ ap (λ n. n + length more) (length-map own (λ _. value)) ∙ sym (length-append own more) in
+    subst P (sym change.is) (record {
+      counted = kept count flat parts number part.0 change.new counted part.1 change.start sizes;
+      shown = made ∙ sym shown;
+    })
+
+-- ---- a whole stretch that is a pattern
+
+-- the items that a whole stretch shows
+pub whole_stretch : {X : Type 0} (count : ℕ) (flat : List X) (parts : List (Part X)) (from size number place : ℕ) → AreCounted count flat parts → number < length parts
+    → ((part : Part X) → slice_get parts number ≡ Some part → (place ≡ from - part.start) × Placed flat parts from part number)
+    → place ≡ 0 → ((part : Part X) → slice_get parts number ≡ Some part → length part.stretch ≡ size)
+    → (part : Part X) → slice_get parts number ≡ Some part → take size (drop from (all_items flat parts)) ≡ part.stretch
+whole_stretch {X = X} count flat parts from size number place counted h placed none whole part is =
+    let at = placed part is in
+    let own = part.stretch in
+    let more = part.after.items in
+    let xs = flat ++ before parts number in
+    let rest = behind parts number in
+    let low = at.1.from in
+    let zero_place = at.0 in
+    let start = at.1.start in
+    let begin : length xs ≡ from = omega (arith, length-append flat (before parts number)) in
+    let old : all_items flat parts ≡ xs ++ (own ++ (more ++ rest)) =
+    ap (λ r. flat ++ r) (unchanged parts number part is ∙ ap (λ r. before parts number ++ r) (joined_end own more rest)) ∙ sym (joined_end flat (before parts number) (own ++ (more ++ rest))) in
+    ap (λ r. take size (drop from r)) old
+    ∙ ap (λ n. take size (drop n (xs ++ (own ++ (more ++ rest))))) (sym begin)
+    ∙ ap (take size) (drop-append_seam xs (own ++ (more ++ rest)))
+    ∙ ap (λ n. take n (own ++ (more ++ rest))) (sym (whole part is))
+    ∙ take-append_seam own (more ++ rest)
+
+replaced_middle : {Y : Type 0} (xs own ys new : List Y) → length new ≡ length own → replaced (xs ++ (own ++ ys)) (length xs) new ≡ xs ++ (new ++ ys)
+replaced_middle {Y = Y} xs own ys new size =
+    let made : List Y → List Y → List Y → List Y = λ a b c. a ++ (b ++ c) in
+    let first : take (length xs) (xs ++ (own ++ ys)) ≡ xs = take-append_seam xs (own ++ ys) in
+    let last : drop (length xs + length own) (xs ++ (own ++ ys)) ≡ ys = drop-append-add xs (own ++ ys) (length own) ∙ drop-append_seam own ys in
+    ap (λ a. made a new (drop (length xs + length new) (xs ++ (own ++ ys)))) first
+    ∙ ap (λ n. made xs new (drop (length xs + n) (xs ++ (own ++ ys)))) size
+    ∙ ap (λ c. made xs new c) last
+
+abbrev pub refilled : {X : Type 0} → List X → Part X → List X
+refilled new part = new ++ part.after.items
+
+pub refill_done : {X : Type 0} (count : ℕ) (flat : List X) (parts then : List (Part X)) (from number place : ℕ) (new : List X) → AreCounted count flat parts → number < length parts
+    → ((part : Part X) → slice_get parts number ≡ Some part → (place ≡ from - part.start) × Placed flat parts from part number)
+    → place ≡ 0 → ((part : Part X) → slice_get parts number ≡ Some part → length part.stretch ≡ length new)
+    → ChangesTo parts number then (refilled new) → Done count flat then (replaced (all_items flat parts) from new)
+refill_done {X = X} count flat parts then from number place new counted h placed none whole changes =
+    let part = there parts number h in
+    let at = placed part.0 part.1 in
+    let change = changes part.0 part.1 in
+    let own = part.0.stretch in
+    let more = part.0.after.items in
+    let xs = flat ++ before parts number in
+    let rest = behind parts number in
+    let P : List (Part X) → Type 0 = λ ps. Done count flat ps (replaced (all_items flat parts) from new) in
+    let low = at.1.from in
+    let zero_place = at.0 in
+    let start = at.1.start in
+    let size : length new ≡ length own = sym (whole part.0 part.1) in
+    let begin : length xs ≡ from = omega (arith, length-append flat (before parts number)) in
+    let old : all_items flat parts ≡ xs ++ (own ++ (more ++ rest)) =
+    ap (λ r. flat ++ r) (unchanged parts number part.0 part.1 ∙ ap (λ r. before parts number ++ r) (joined_end own more rest)) ∙ sym (joined_end flat (before parts number) (own ++ (more ++ rest))) in
+    let made : all_items flat (set parts number change.new) ≡ xs ++ (new ++ (more ++ rest)) =
+    ap (λ r. flat ++ r) (changed parts number part.0 change.new part.1 ∙ ap (λ r. before parts number ++ r) (ap (λ r. r ++ rest) change.shows ∙ joined_end new more rest))
+    ∙ sym (joined_end flat (before parts number) (new ++ (more ++ rest))) in
+    let shown : replaced (all_items flat parts) from new ≡ xs ++ (new ++ (more ++ rest)) =
+    ap (λ r. replaced r from new) old
+    ∙ ap (λ n. replaced (xs ++ (own ++ (more ++ rest))) n new) (sym begin)
+    ∙ replaced_middle xs own (more ++ rest) new size in
+    let sizes : length (items_in change.new) ≡ length (items_in part.0) =
+    ap length change.shows ∙ length-append new more ∙ ap (λ n. n + length more) size ∙ sym (length-append own more) in
     subst P (sym change.is) (record {
       counted = kept count flat parts number part.0 change.new counted part.1 change.start sizes;
       shown = made ∙ sym shown;

@@ -64,3 +64,7 @@ pub record Done {X : Type 0} (count : ℕ) (flat : List X) (parts : List (Part X
 -- so many items from a place on are one value
 abbrev pub filled : {X : Type 0} → List X → ℕ → ℕ → X → List X
 filled items from count value = take from items ++ (repeated count (value ∷ []) ++ drop (from + count) items)
+
+-- items in place of as many from a place on
+abbrev pub replaced : {X : Type 0} → List X → ℕ → List X → List X
+replaced items from new = take from items ++ (new ++ drop (from + length new) items)

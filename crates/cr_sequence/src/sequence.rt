@@ -2,9 +2,9 @@ ghost use Rattle.std.specs.Prelude.{◌≡◌, ℕ, ◌+◌, ◌-◌, ◌*◌, �
 ghost use Rattle.std.specs.List.{flat_map};
 ghost use Rattle.cr_sequence.specs.Kept.{repeated};
 ghost use Rattle.cr_sequence.specs.Written.{overwritten};
-ghost use Rattle.cr_sequence.specs.Stretches.{items_in, all_items, AreCounted, BeginsBy, BeginsFrom, ChangesTo, Done, filled, Holds, IsPlaced};
+ghost use Rattle.cr_sequence.specs.Stretches.{items_in, all_items, AreCounted, BeginsBy, BeginsFrom, ChangesTo, Done, filled, replaced, Holds, IsPlaced};
 
-use crate::stretch::Stretch;
+use crate::stretch::{Stretch, size_of};
 use std::alloc::{AllocError, Global};
 use std::marker::Model;
 
@@ -328,6 +328,89 @@ fn fill_stretch<T: Copy>(
         true
     } else {
         false
+    }
+}
+
+fn refill_in<T: Copy>(part: &mut Part<T>, pattern: Vec<T>, times: usize)
+    requires some { 0 < length pattern.items }
+    requires whole { times * length pattern.items ≡ length part.old.stretch }
+    ensures start { part.new.start ≡ part.old.start }
+    ensures items { items_in part.new ≡ repeated times pattern.items ++ part.old.after.items }
+{
+    part.stretch.refill(pattern, times);
+}
+
+fn refill_at<T: Copy>(parts: &mut Vec<Part<T>>, number: usize, pattern: Vec<T>, times: usize)
+    requires number { number < length parts.old.items }
+    requires some { 0 < length pattern.items }
+    requires whole { (part : Part T) → slice_get parts.old.items number ≡ Some part → times * length pattern.items ≡ length part.stretch }
+    ensures { ChangesTo parts.old.items number parts.new.items (λ part. repeated times pattern.items ++ part.after.items) }
+{
+    refill_in(&mut parts[number], pattern, times);
+}
+
+// Where a pattern so many times has as many items as the whole stretch at a place, it is there now; else nothing changes.
+fn refill_stretch<T: Copy>(
+    count: usize,
+    flat: &Vec<T>,
+    parts: &mut Vec<Part<T>>,
+    from: usize,
+    pattern: Vec<T>,
+    times: usize,
+) -> bool
+    requires counted { AreCounted count flat.now.items parts.old.items }
+    requires within { from < count }
+    requires behind { length flat.now.items ≤ from }
+    requires some { 0 < length pattern.items }
+    ensures done { result ≡ true → Done count flat.now.items parts.new.items (replaced (all_items flat.now.items parts.old.items) from (repeated times pattern.items)) }
+    ensures same { result ≡ false → parts.new.items ≡ parts.old.items }
+{
+    let (number, place) = placed(count, flat, parts, from);
+    if place != 0 {
+        return false;
+    }
+    let each = size_of(&pattern);
+    let Some(size) = times.checked_mul(each) else {
+        return false;
+    };
+    let whole = has_stretch(parts, number, size);
+    if whole {
+        refill_at(parts, number, pattern, times);
+        true
+    } else {
+        false
+    }
+}
+
+fn pattern_at<T: Copy>(parts: &Vec<Part<T>>, number: usize) -> Option<(&[T], usize)>
+    requires { number < length parts.now.items }
+    ensures { (part : Part T) → slice_get parts.now.items number ≡ Some part → IfSome result (λ p. repeated p.1 p.0.now ≡ part.stretch) }
+{
+    parts[number].stretch.pattern()
+}
+
+// The pattern of a whole stretch, and how often it comes.
+fn pattern_behind<'a, T: Copy>(
+    count: usize,
+    flat: &Vec<T>,
+    parts: &'a Vec<Part<T>>,
+    from: usize,
+    size: usize,
+) -> Option<(&'a [T], usize)>
+    requires counted { AreCounted count flat.now.items parts.now.items }
+    requires within { from < count }
+    requires behind { length flat.now.items ≤ from }
+    ensures { IfSome result (λ p. repeated p.1 p.0.now ≡ take size (drop from (all_items flat.now.items parts.now.items))) }
+{
+    let (number, place) = placed(count, flat, parts, from);
+    if place != 0 {
+        return None;
+    }
+    let whole = has_stretch(parts, number, size);
+    if whole {
+        pattern_at(parts, number)
+    } else {
+        None
     }
 }
 
@@ -695,6 +778,44 @@ impl<T: Copy> Sequence<T> {
             return false;
         }
         fill_stretch(self.count, &self.flat, &mut self.parts, from, count, value)
+    }
+
+    /// A pattern so many times in place of as many items from a place on, where these are a whole stretch; else nothing changes. It takes
+    /// a step for each block at most.
+    pub fn refill(&mut self, from: usize, pattern: Vec<T>, times: usize) -> bool
+        requires { 0 < length pattern.items }
+        ensures done { result ≡ true → self.new ≡ replaced self.old from (repeated times pattern.items) }
+        ensures same { result ≡ false → self.new ≡ self.old }
+    {
+        let plain = self.flat.len();
+        if from < plain {
+            return false;
+        }
+        if from >= self.count {
+            return false;
+        }
+        refill_stretch(
+            self.count,
+            &self.flat,
+            &mut self.parts,
+            from,
+            pattern,
+            times,
+        )
+    }
+
+    /// Which pattern so many items from a place on are, and how often it comes, where they are a whole stretch of which none was set.
+    pub fn pattern(&self, from: usize, count: usize) -> Option<(&[T], usize)>
+        ensures { IfSome result (λ p. repeated p.1 p.0.now ≡ take count (drop from self.now)) }
+    {
+        let plain = self.flat.len();
+        if from < plain {
+            return None;
+        }
+        if from >= self.count {
+            return None;
+        }
+        pattern_behind(self.count, &self.flat, &self.parts, from, count)
     }
 
     /// Drops the items from a place on.

@@ -1,4 +1,4 @@
-ghost use Rattle.std.specs.Prelude.{◌≡◌, ◌*◌, ◌<◌, ◌≤◌, ◌∷◌, [], IfOk, length, map, slice_get, slice_set, take, Some};
+ghost use Rattle.std.specs.Prelude.{◌≡◌, ◌*◌, ◌<◌, ◌≤◌, ◌∷◌, [], IfOk, IfSome, length, map, slice_get, slice_set, take, Some};
 ghost use Rattle.cr_sequence.specs.Kept.{repeated};
 
 use crate::blocks::{BLOCK, item_at, none_each, set, unmake};
@@ -97,6 +97,33 @@ impl<T: Copy> Stretch<T> {
         unmake(&mut self.blocks, &mut self.pool);
         self.first = value;
         set_alone(&mut self.pattern, value);
+    }
+
+    /// A pattern so many times in place of all items. Its time is a step for each block, where one was made.
+    pub fn refill(&mut self, pattern: Vec<T>, times: usize)
+        requires some { 0 < length pattern.items }
+        requires whole { times * length pattern.items ≡ length self.old }
+        ensures { self.new ≡ repeated times pattern.items }
+    {
+        unmake(&mut self.blocks, &mut self.pool);
+        self.first = pattern[0];
+        self.pattern = pattern;
+    }
+
+    /// The pattern and how often it comes, where no block was made.
+    pub fn pattern(&self) -> Option<(&[T], usize)>
+        ensures { IfSome result (λ p. repeated p.1 p.0.now ≡ self.now) }
+    {
+        if self.pool.len() != 0 {
+            return None;
+        }
+        let each = size_of(&self.pattern);
+        let times = self.count / each;
+        if times * each == self.count {
+            Some((self.pattern.as_slice(), times))
+        } else {
+            None
+        }
     }
 }
 

@@ -2,7 +2,7 @@ use Rattle.std.proofs.Common.{◌≡◌, ◌++◌, drop, length}
 use Rattle.cr_memory.specs.Memory.{live_object}
 use Rattle.cr_memory.specs.Access.{some_object}
 use Rattle.cr_meaning.specs.Nodes.{elements_of}
-use Rattle.cr_exec_statements.proofs.initial.elements.Given as goal
+use Rattle.cr_exec_statements.proofs.initial.elements_each.Given as goal
 
 abbrev pub invariant-loop-kinds_left : goal.invariant-loop-kinds_left
 invariant-loop-kinds_left l =

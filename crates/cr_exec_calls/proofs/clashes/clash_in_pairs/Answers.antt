@@ -2,7 +2,7 @@ use Rattle.std.proofs.Common.{List, sym, subst}
 use Rattle.cr_exec_turns.specs.declared.held.Held.{Held}
 use Rattle.cr_exec_calls.specs.Clashes.{Clashes}
 use Rattle.cr_exec_calls.proofs.Clashing.{clashes_later}
-use Rattle.cr_exec_calls.proofs.clashes.clashes.Goals as goal
+use Rattle.cr_exec_calls.proofs.clashes.clash_in_pairs.Goals as goal
 
 pub loop-argument-preserved : goal.loop-argument-preserved
 loop-argument-preserved c = λ b m.
