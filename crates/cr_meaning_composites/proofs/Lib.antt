@@ -3,3 +3,4 @@ pub mod ParametersLemmas
 pub mod ObjectsLemmas
 pub mod MainsLemmas
 pub mod ComposedLemmas
+pub mod KeptLemmas

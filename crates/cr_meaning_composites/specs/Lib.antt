@@ -3,3 +3,4 @@ pub mod Parameters
 pub mod Objects
 pub mod Mains
 pub mod Composed
+pub mod Kept

@@ -5,6 +5,7 @@
 
 pub mod chained;
 pub mod composed;
+pub mod kept;
 pub mod mains;
 pub mod objects;
 pub mod parameters;

@@ -1,17 +1,17 @@
 //! Laws of the declarations of an object of a file's unit. The program calls none of these functions.
-ghost use Rattle.cr_meaning_composites.specs.Objects.Laws.{FirstsAreStatic, ObjectsFollowObjects, SharedObjectsAreLinked};
+ghost use Rattle.cr_meaning_composites.specs.Objects.Laws as laws;
 
 /// An object that is declared more than once has linkage.
 pub fn shared_objects_are_linked()
-    ensures { SharedObjectsAreLinked }
+    ensures { laws.SharedObjectsAreLinked }
 {}
 
 /// What declares an object is behind declarations of objects.
 pub fn objects_follow_objects()
-    ensures { ObjectsFollowObjects }
+    ensures { laws.ObjectsFollowObjects }
 {}
 
 /// What has static duration has it by its first declaration.
 pub fn firsts_are_static()
-    ensures { FirstsAreStatic }
+    ensures { laws.FirstsAreStatic }
 {}

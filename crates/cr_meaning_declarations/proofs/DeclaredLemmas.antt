@@ -1,4 +1,5 @@
 pub mod Nodes
+pub mod Files
 pub mod Plans
 pub mod Free
 pub mod Bodies

@@ -17,15 +17,14 @@ use Rattle.cr_meaning_operations.specs.Operations.{kind_if, kind_at, parts_at, p
 use Rattle.cr_meaning_soundness.specs.Sorts.{statement, IsAmong}
 use Rattle.cr_meaning_soundness.specs.Statements.{of_function}
 use Rattle.cr_meaning_typing.specs.Typed.Typing.{is_expression}
-use Rattle.cr_meaning_declarations.specs.Units.Owned.{AreOfUnit}
 use Rattle.cr_meaning_declarations.specs.Declared.Files.{IsUnitOfFile}
+use Rattle.cr_meaning_declarations.proofs.DeclaredLemmas.Files.{has_unit}
 use Rattle.cr_meaning_typing.specs.Calls.Calls.{IsParameter, IsCalled}
 use Rattle.cr_meaning_initialisation.specs.Called.Laws.{IsMeant, IsFitting}
 use Rattle.cr_meaning_typing.specs.Sorts.Table.{result_of, expression_sort, exits_at, sort_at, sorts_in}
 use Rattle.cr_meaning_files.specs.Reached.{is_definition}
 use Rattle.cr_meaning_files.specs.Files.{judgement_of}
-use Rattle.cr_meaning_files.proofs.Tree.{as_part}
-use Rattle.cr_meaning_files.proofs.Filling.{unit}
+use Rattle.cr_meaning_references.proofs.TreesLemmas.Tree.{as_part}
 use Rattle.cr_meaning_files.proofs.Mains.{body_at, block_at, reached_at, exits_of}
 use Rattle.cr_meaning_files.proofs.Scoped.{IsBodyOf}
 use Rattle.cr_meaning_files.proofs.Library.{is_of_library}
@@ -51,8 +50,7 @@ as_many f [] = refl
 as_many f (x ∷ xs) = ap suc (as_many f xs)
 
 module _ (file : List ℕ) (t : Typed) (it : IsUnitOfFile file t) (i : ℕ) where
-  abbrev u : AreOfUnit t
-  u = unit file t it
+  open has_unit file t it use {unit as u}
 
   abbrev definition : ℕ
   definition = function_in (named_type t (entity_of t i))

@@ -14,9 +14,7 @@ use Rattle.cr_check_expressions.specs.Ruled.{facts_at}
 use Rattle.cr_check_literals.specs.Texts.{joined, text_by, text_if}
 use Rattle.cr_check_unit.specs.Typing.{cut, entry_at}
 use Rattle.cr_check_unit.specs.Breaks.{IsNodeBreak}
-use Rattle.cr_check.specs.declared.checked.Checked.{Checked}
 use Rattle.cr_typed.specs.declared.typed.Typed.{Typed}
-use Rattle.cr_typed_unit.specs.Typed.{IsTypedBy}
 use Rattle.cr_meaning_operations.specs.Operations.{kind_if, kind_at}
 use Rattle.cr_meaning_typing.specs.Typed.Laws.{HoldsAll}
 use Rattle.cr_meaning_typing.specs.Typed.Typing.{has_value, is_expression, IsClear, IsRead}
@@ -37,11 +35,7 @@ some_bytes : (bytes : List ℕ) → 1 ≤ length (bytes ++ 0 ∷ [])
 some_bytes bytes = let more = length_push bytes 0 in omega (arith, more)
 
 module _ (file : List ℕ) (t : Typed) (it : IsUnitOfFile file t) where
-  abbrev checked : Checked
-  checked = it.checked.checked
-
-  abbrev made_by : IsTypedBy file it.unit it.names checked t
-  made_by = it.checked.by
+  open it use {checked.{checked}, made_by}
 
   here : (i : ℕ) (n : Node) → slice_get t.nodes i ≡ Some n → slice_get made_by.tree.nodes.now i ≡ Some n
   here i n at = ap (λ ns. slice_get ns i) (made_by.is.whole.tree.nodes ∙ sym made_by.elaborated.nodes_are) ∙ at

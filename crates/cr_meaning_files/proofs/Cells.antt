@@ -1,5 +1,5 @@
 -- The cells of types: an array has those of its elements, and what has a type of objects has some (C11 6.2.5p20).
-use Rattle.std.proofs.Common.{◌≡◌, ℕ, zero, suc, ◌+◌, ◌*◌, ◌%◌, ◌<◌, ◌≤◌, Bool, List, refl, sym, ap, subst, ◌∙◌, slice_index_or, arith, mul_assoc, suc-mul, mul-pos}
+use Rattle.std.proofs.Common.{◌≡◌, ℕ, zero, suc, ◌+◌, ◌*◌, ◌<◌, ◌≤◌, Bool, List, refl, sym, ap, subst, ◌∙◌, slice_index_or, arith, mul_assoc, suc-mul, mul-pos, ◌%◌}
 use Rattle.std.proofs.Math.Nat.{add-mul-mod_self_right}
 use Rattle.cr_syntax.specs.declared.ctype.CType.TheVariants.{Int, Struct}
 use Rattle.cr_syntax.specs.declared.node.Kind.TheVariants as kind
@@ -22,7 +22,7 @@ exact x few = omega (arith, few)
 pub exact_within : (x : ℕ) → x ≤ MOST_CELLS → fitted x ≡ x
 exact_within x few = omega (arith, few)
 
-less_exact : (x y rest : ℕ) → x ≡ rest + y → fitted x ≤ MOST_CELLS → fitted y ≡ y
+pub less_exact : (x y rest : ℕ) → x ≡ rest + y → fitted x ≤ MOST_CELLS → fitted y ≡ y
 less_exact x y rest e few = omega (arith, e, few)
 
 -- those of an array are those of its elements
@@ -39,10 +39,10 @@ elements_few (suc m) c s some few =
     let apart : suc m * c * s ≡ m * (c * s) + c * s = mul_assoc (suc m) c s ∙ suc-mul m (c * s) in
     omega (arith, apart, few)
 
-no_rest : (n : ℕ) → 0 % n ≡ 0
+pub no_rest : (n : ℕ) → 0 % n ≡ 0
 no_rest n = omega arith
 
-multiple : (x n y : ℕ) → x ≡ n * y → x % y ≡ 0
+pub multiple : (x n y : ℕ) → x ≡ n * y → x % y ≡ 0
 multiple x n y e = let zeroed : x ≡ 0 + n * y = e ∙ omega arith in ap (λ m. m % y) zeroed ∙ add-mul-mod_self_right 0 n y ∙ no_rest y
 
 -- ---- a type has its cells whatever qualifies it

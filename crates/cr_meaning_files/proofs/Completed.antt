@@ -13,7 +13,6 @@ use Rattle.cr_syntax.specs.declared.node.Node.{Node}
 use Rattle.cr_syntax.specs.Tables.{rule_of, side_of}
 use Rattle.cr_syntax_nodes.specs.Nodes.{least}
 use Rattle.cr_scopes_events.specs.Scripts as scripts
-use Rattle.cr_check_types.specs.declared.shape.Shape.{Shape}
 use Rattle.cr_check_types.specs.declared.layout.Layout.{Layout}
 use Rattle.cr_check_types.specs.Types.{Qualified, plain, pointer as to, array, type_at}
 use Rattle.cr_check_types.specs.Relations.{is_content_if, is_complete_at}
@@ -21,21 +20,21 @@ use Rattle.cr_check_types.specs.Layouts.{count_of, element_of, single_of}
 use Rattle.cr_check_initialisers.specs.Known.{Known, member_types, is_text, is_list, is_text_if, is_list_if}
 use Rattle.cr_check_initialisers.specs.Places.{types_in, opens}
 use Rattle.cr_check_initialisers.specs.Plans.{is_open}
-use Rattle.cr_check_unit.specs.declared.typing.Typing.{Typing}
 use Rattle.cr_typed.specs.declared.typed.Typed.{Typed}
 use Rattle.cr_typed.specs.Typed.{IsBefore, MOST_CELLS}
 use Rattle.cr_meaning_soundness.specs.Sorts.{Sort, sort_of_scalar, sorts_in}
 use Rattle.cr_meaning_operations.specs.Shapes.{cells_of, cells_with, structure_cells, shape_of, repeated}
 use Rattle.cr_meaning_operations.specs.Operations.{kind_if, kind_at, parts_at}
 use Rattle.cr_meaning_declarations.specs.Declared.Files.{IsUnitOfFile}
+use Rattle.cr_meaning_declarations.proofs.DeclaredLemmas.Nodes.{of_unit}
 use Rattle.cr_meaning_initialisation.specs.Initialised.Parts.{Every, is_aggregate, AreCells}
 use Rattle.cr_meaning_initialisation.specs.Initialised.Asked.{HaveParts}
 use Rattle.cr_meaning_files.specs.Reached.{is_list as is_list_kind}
 use Rattle.cr_meaning_files.specs.Structures.{IsWhole, AreMembersWhole}
 use Rattle.cr_meaning_files.proofs.Cells.{exact, elements_few}
-use Rattle.cr_meaning_files.proofs.Tree.{counted_by}
+use Rattle.cr_meaning_references.proofs.TreesLemmas.Tree.{counted_by}
 use Rattle.cr_meaning_files.proofs.Putting.{lists_at}
-use Rattle.cr_meaning_files.proofs.Filling.{unit, known, listed_is, initialisers_are}
+use Rattle.cr_meaning_files.proofs.Filling.{known, listed_is, initialisers_are}
 use Rattle.cr_meaning_files.proofs.Members.{member_rows}
 use Rattle.cr_meaning_files.proofs.Made.{map_map, content_at, complete_whole, rows_at, rows_some, early_single}
 use Rattle.cr_meaning_files.proofs.Apart.{map_flat_map, map_repeated, kinds_of, parts_are, counted}
@@ -102,11 +101,7 @@ module _ (file : List ℕ) (t : Typed) (it : IsUnitOfFile file t) (made : AreMem
   abbrev k : Known
   k = known file t it i
 
-  abbrev typing : Typing
-  typing = it.checked.checked.whole.typing
-
-  abbrev table : List Shape
-  table = it.checked.checked.table
+  open it use {typing, shapes as table}
 
   counted_early : (type : Qualified) → IsEarly type → length (cells type) ≡ k.cells type
   counted_early type h =
@@ -224,7 +219,7 @@ module _ (file : List ℕ) (t : Typed) (it : IsUnitOfFile file t) (made : AreMem
   -- ---- lists in braces
 
   list_there : (j : ℕ) → kind_at t j ≡ kind.InitializerList → 1 ≤ length (parts_at t j)
-  list_there j is = let least = (counted_by t (unit file t it) j kind.InitializerList is refl).least in let one = list_counts in omega (arith, least, one)
+  list_there j is = let least = (counted_by t (of_unit file t it) j kind.InitializerList is refl).least in let one = list_counts in omega (arith, least, one)
 
   initialised : (b j : ℕ) → opens k b j ≡ true → 1 ≤ length (k.initialisers j)
   initialised b j o =

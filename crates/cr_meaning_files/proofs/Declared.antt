@@ -1,5 +1,5 @@
 -- What declarations give is known, since a declaration stands before each name that sees it (K1).
-use Rattle.std.proofs.Common.{◌≡◌, ℕ, zero, suc, ◌<◌, ◌||◌, inl, inr, Bool, true, false, List, [], ◌∷◌, Some, length, map, slice_get, slice_index_or, sym, subst, ap, ◌∙◌, arith, if◌then◌else◌}
+use Rattle.std.proofs.Common.{◌≡◌, ℕ, ◌<◌, ◌||◌, inl, inr, Bool, true, false, List, [], Some, length, map, slice_get, slice_index_or, sym, subst, ap, ◌∙◌, arith, if◌then◌else◌}
 use Rattle.std.proofs.lemmas.Bool.{cases_lt, false≢true}
 use Rattle.std.proofs.lemmas.List.{get_or_past}
 use Rattle.cr_syntax.specs.declared.ctype.CType.TheVariants.{Unknown}
@@ -11,9 +11,7 @@ use Rattle.cr_check_expressions.specs.declared.known.Member.{Member}
 use Rattle.cr_check_declarators.specs.Declarators.{whole_object}
 use Rattle.cr_typed_columns.specs.Columns.{is_structure}
 use Rattle.cr_typed.specs.declared.typed.Typed.{Typed}
-use Rattle.cr_typed_unit.specs.Typed.{IsTypedBy}
 use Rattle.cr_meaning_declarations.specs.Declared.Files.{IsUnitOfFile, assembled}
-use Rattle.cr_meaning_types.specs.Known.Sighted.{AreSighted}
 use Rattle.cr_meaning_types.specs.Known.Sized.{is_open}
 use Rattle.cr_meaning_typing.specs.Typed.Typing.{has_value}
 use Rattle.cr_meaning_types.specs.Known.Known.{IsMemberType, AreKnown}
@@ -24,12 +22,9 @@ use Rattle.cr_meaning_references.proofs.TypedefsLemmas.Files.{are_seen}
 use Rattle.cr_meaning_files.specs.Files.{AreRead}
 use Rattle.cr_meaning_files.specs.Structures.{AreMembersWhole}
 use Rattle.cr_meaning_files.proofs.Made.{complete_whole}
-use Rattle.cr_meaning_files.proofs.Shaped.{shaped, surrounded}
-
-pub image : {A B : Type 0} (f : A → B) (xs : List A) (k : ℕ) (x : A) → slice_get xs k ≡ Some x → slice_get (map f xs) k ≡ Some (f x)
-image f [] k x e = absurd (cc e)
-image f (y ∷ xs) zero x e = let same : y ≡ x = cc e in ap (λ z. Some (f z)) same
-image f (y ∷ xs) (suc k) x e = image f xs k x e
+use Rattle.cr_meaning_references.proofs.TreesLemmas.Shaped.{surrounded, shaped}
+use Rattle.cr_meaning_references.proofs.TreesLemmas.Sighted.{sighted}
+use Rattle.cr_meaning_initialisation.proofs.CalledLemmas.Objects.{at_map as image}
 
 -- a type is complete, unless it is an array of unknown size
 sized_complete : (complete : Qualified → Bool) (type : Qualified) → has_value type ≡ true → is_open type ≡ false → whole_object complete type ≡ true → complete type ≡ true
@@ -38,18 +33,17 @@ sized_complete complete (plain of c v) h o e = e
 sized_complete complete (to c v below) h o e = e
 sized_complete complete (array n below) h o e = sym (ap (λ b. b || complete (array n below)) o) ∙ e
 
-module _ (file : List ℕ) (t : Typed) (it : IsUnitOfFile file t) (sighted : AreSighted it.checked.by.tree) where
-  abbrev made_by : IsTypedBy file it.unit it.names it.checked.checked t
-  made_by = it.checked.by
+module _ (file : List ℕ) (t : Typed) (it : IsUnitOfFile file t) where
+  open it use {made_by}
 
   pub types_known : AreKnown it.checked.by.tree it.checked.checked.table it.checked.checked.whole.typing
   types_known =
-      known made_by.tree it.checked.checked.texts it.checked.checked.table it.checked.checked.whole.typing made_by.is.whole.typing (λ b broken. made_by.sound.constraints b (inl broken)) (shaped file t it) sighted
+      known made_by.tree it.checked.checked.texts it.checked.checked.table it.checked.checked.whole.typing made_by.is.whole.typing (λ b broken. made_by.sound.constraints b (inl broken)) (shaped file t it) (sighted file t it)
 
   -- what expressions read
   pub read : AreRead file t it
   read =
-      (readable made_by.tree it.checked.checked.texts it.checked.checked.table it.checked.checked.whole.typing made_by.is.whole.typing (λ b broken. made_by.sound.constraints b (inl broken)) (shaped file t it) sighted).reads
+      (readable made_by.tree it.checked.checked.texts it.checked.checked.table it.checked.checked.whole.typing made_by.is.whole.typing (λ b broken. made_by.sound.constraints b (inl broken)) (shaped file t it) (sighted file t it)).reads
 
   -- ---- members
 
@@ -72,7 +66,7 @@ module _ (file : List ℕ) (t : Typed) (it : IsUnitOfFile file t) (sighted : Are
   -- no member is an array of unknown size
   member_sized : (d k : ℕ) (m : Member) → slice_get (slice_index_or it.checked.checked.whole.typing.members d []) k ≡ Some m → is_open (type_at it.checked.checked.table m.row) ≡ false
   member_sized =
-      sized made_by.tree it.checked.checked.texts it.checked.checked.table it.checked.checked.whole.typing made_by.is.whole.typing (λ b broken. made_by.sound.constraints b (inl broken)) (shaped file t it) sighted
+      sized made_by.tree it.checked.checked.texts it.checked.checked.table it.checked.checked.whole.typing made_by.is.whole.typing (λ b broken. made_by.sound.constraints b (inl broken)) (shaped file t it) (sighted file t it)
       (surrounded file t it) (are_seen file t (assembled file t it))
 
   pub members_whole : AreMembersWhole t

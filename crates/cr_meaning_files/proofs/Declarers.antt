@@ -3,7 +3,7 @@ use Rattle.std.proofs.Common.{◌≡◌, ℕ, zero, suc, ◌+◌, ◌<◌, ◌&&
 use Rattle.std.specs.Option.{is_some}
 use Rattle.std.proofs.lemmas.Bool.{false≢true, and_parts, cases_lt}
 use Rattle.std.proofs.lemmas.List.{get_or_past, get_or-take, length-take}
-use Rattle.std.proofs.lemmas.Option.{slice_get_within}
+use Rattle.std.proofs.lemmas.Option.{slice_get_within, same_Some}
 use Rattle.cr_syntax.specs.declared.node.Kind.{Kind}
 use Rattle.cr_syntax.specs.declared.node.Kind.TheVariants as kind
 use Rattle.cr_syntax.specs.declared.node.Node.{Node}
@@ -13,7 +13,6 @@ use Rattle.cr_syntax.specs.Grammar.{Side, part as needed}
 use Rattle.cr_syntax.specs.Tables.{rule_of, side_of}
 use Rattle.cr_syntax.specs.Kept.{AreBelow, row_in}
 use Rattle.cr_syntax.proofs.Arena.{row_at, below_first, below_rest}
-use Rattle.cr_syntax_order.specs.Listed.{AreListed}
 use Rattle.cr_syntax_nodes.specs.Laid.{stands_for, IsLaid}
 use Rattle.cr_syntax_nodes.proofs.Numbers.{some_at}
 use Rattle.cr_scopes_events.specs.Declarators.{declarator_of}
@@ -34,8 +33,7 @@ use Rattle.cr_scopes_visibility.specs.Uses.Uses.{Finds}
 use Rattle.cr_scopes_visibility.proofs.UsesLemmas.Finding.{all_find}
 use Rattle.cr_check_enclosing.specs.declared.context.Around.{Around}
 use Rattle.cr_check_enclosing.specs.declared.context.Place.TheVariants as place
-use Rattle.cr_check_enclosing.specs.Around.{outermost, inside}
-use Rattle.cr_check_types.specs.declared.shape.Shape.{Shape}
+use Rattle.cr_check_enclosing.specs.Around.{outermost}
 use Rattle.cr_check_types.specs.Types.{Qualified, type_at}
 use Rattle.cr_check_expressions.specs.declared.known.Declared.{Declared}
 use Rattle.cr_check_expressions.specs.declared.known.Declared.TheVariants.{Object, Enumerator, Function, TypeName, Unclear}
@@ -53,26 +51,23 @@ use Rattle.cr_check_signatures.specs.Functions.Linked.{has_linkage, IsFunction}
 use Rattle.cr_check_signatures.proofs.FunctionsLemmas.Linked.{functions}
 use Rattle.cr_check_surroundings.specs.Named.{used_by, used_name, visible_if}
 use Rattle.cr_check_surroundings.specs.Raised.{initialises, raised_by, raised_if, raised, raised_of}
-use Rattle.cr_check_unit.specs.declared.typing.Typing.{Typing}
 use Rattle.cr_check_unit.specs.Typing.{cut, entry_at, before_in, past_in}
 use Rattle.cr_typed.specs.declared.typed.Typed.{Typed}
-use Rattle.cr_typed_unit.specs.Typed.{IsTypedBy}
 use Rattle.cr_meaning_typing.specs.Judged.Judged.{source_of}
-use Rattle.cr_meaning_declarations.specs.Units.Owned.{AreOfUnit}
 use Rattle.cr_meaning_declarations.proofs.UnitsLemmas.Handing.{laid_at, parts_below}
-use Rattle.cr_meaning_types.specs.Known.Shaped.{fits, IsShaped}
+use Rattle.cr_meaning_types.specs.Known.Shaped.{fits}
 use Rattle.cr_meaning_declarations.specs.Declared.Files.{IsUnitOfFile}
-use Rattle.cr_meaning_declarations.proofs.DeclaredLemmas.Nodes.{of_unit}
-use Rattle.cr_meaning_declarations.proofs.LinkedLemmas.Order.{order_of}
+use Rattle.cr_meaning_declarations.proofs.DeclaredLemmas.Files.{has_unit}
+use Rattle.cr_meaning_declarations.proofs.DeclaredLemmas.Once.{place_init as init_place}
 use Rattle.cr_meaning_references.proofs.ToldLemmas.Names.{last_is, initial}
 use Rattle.cr_meaning_references.proofs.ToldLemmas.Orderly.{apart, named_within}
+use Rattle.cr_meaning_references.proofs.TreesLemmas.Shaped.{shaped}
 use Rattle.cr_meaning_composites.specs.Chained.Laws.{DeclaresFunction}
 use Rattle.cr_meaning_composites.proofs.ChainedLemmas.Known.{is_typing, holds, nodes_are}
+use Rattle.cr_meaning_composites.proofs.ChainedLemmas.Chained.{no_init}
+use Rattle.cr_meaning_composites.proofs.ParametersLemmas.Parameters.{parameter_place}
 use Rattle.cr_meaning_files.specs.Meant as Laws
 use Rattle.cr_meaning_files.specs.Meant.{SeesFunction}
-
-some_same : {A : Type 0} (x y : A) → Some x ≡ Some y → x ≡ y
-some_same x y e = cc
 
 -- ---- kinds
 
@@ -103,20 +98,9 @@ unfolding rule_of
 no_block kind.Compound h g = false≢true g
 no_block k h g = false≢true h
 
-no_init : (k : Kind) → k ≡ kind.InitDeclarator → is_declarator k ≡ true → ⊥
-no_init k e h = false≢true (ap is_declarator (sym e) ∙ h)
-
 name_kind : (k : Kind) (first token : ℕ) (o : Option ℕ) → is_declarator k ≡ true → named_by k first o ≡ Some token → o ≡ Some token
 name_kind kind.Enumerator first token o h e = absurd (false≢true h)
 name_kind k first token o h e = e
-
-parameter_place : (k : Kind) (i : ℕ) (a : Around) → k ≡ kind.Parameter → (inside k i a).place ≡ place.Parameter
-unfolding inside
-parameter_place k i a e = ap (λ x. (inside x i a).place) e
-
-init_place : (k : Kind) (i : ℕ) (a : Around) → k ≡ kind.InitDeclarator → (inside k i a).place ≡ a.place
-unfolding inside
-init_place k i a e = ap (λ x. (inside x i a).place) e
 
 -- a parameter has no linkage (6.2.2p6)
 parameter_alone : (u : Tree) (said : ℕ → Specified) (own : Declarator) (before : Option Declaration) (i : ℕ) (o : Option ℕ) → place_of u i ≡ place.Parameter → has_linkage (linkage_by u said own before i o) ≡ false
@@ -150,27 +134,12 @@ raised_is nodes above r i = over (slice_index_or above r None) refl
     over None q = inl (ap (λ o. raised_if nodes o r i) q)
     over (Some a) q = node a (slice_get nodes a) refl (ap (λ o. raised_if nodes o r i) q)
 
-module _ (file : List ℕ) (t : Typed) (it : IsUnitOfFile file t) (shaped : IsShaped it.checked.by.tree) where
-  abbrev made_by : IsTypedBy file it.unit it.names it.checked.checked t
-  made_by = it.checked.by
-
-  abbrev typing : Typing
-  typing = it.checked.checked.whole.typing
-
-  abbrev shapes : List Shape
-  shapes = it.checked.checked.table
-
-  abbrev tree : Tree
-  tree = made_by.tree
-
-  abbrev unit : AreOfUnit t
-  unit = of_unit file t it
-
-  same_nodes : it.unit.nodes ≡ t.nodes
-  same_nodes = sym made_by.elaborated.nodes_are
+module _ (file : List ℕ) (t : Typed) (it : IsUnitOfFile file t) where
+  open it use {made_by, typing, shapes, tree}
+  open has_unit file t it use {unit, nodes_are as same_nodes}
 
   in_tree : (p : ℕ) (n : Node) → slice_get t.nodes p ≡ Some n → slice_get tree.nodes.now p ≡ Some n
-  in_tree p n at = ap (λ ns. slice_get ns p) (sym (nodes_are file t it shaped)) ∙ at
+  in_tree p n at = ap (λ ns. slice_get ns p) (sym (nodes_are file t it)) ∙ at
 
   -- ---- what holds a declarator
 
@@ -227,7 +196,7 @@ module _ (file : List ℕ) (t : Typed) (it : IsUnitOfFile file t) (shaped : IsSh
       by : (k : ℕ) → slice_get (p ∷ q ∷ s ∷ ps) (suc (suc k)) ≡ Some r → stands_for part.Compound x.kind ≡ true
       by zero f =
           let same : s ≡ r = cc in
-          let one : o.0 ≡ x = some_same o.0 x (sym o.1 ∙ ap (slice_get t.nodes) same ∙ at) in
+          let one : o.0 ≡ x = same_Some o.0 x (sym o.1 ∙ ap (slice_get t.nodes) same ∙ at) in
           subst (λ (w : Node). stands_for part.Compound w.kind ≡ true) one own
       by (suc k) f = absurd (no_more ps (o.0.last + 1) (below_rest s ps (length t.nodes) latest) end k f)
 
@@ -242,8 +211,8 @@ module _ (file : List ℕ) (t : Typed) (it : IsUnitOfFile file t) (shaped : IsSh
     where
       has : (k : ℕ) → slice_get h.node.parts k ≡ Some p → fits h.node.kind k x.kind ≡ true
       has k e =
-          let w = shaped.parts h.declaration h.node (in_tree h.declaration h.node h.at) k p e in
-          let one : w.own ≡ x = some_same w.own x (sym w.at ∙ in_tree p x at) in
+          let w = (shaped file t it).parts h.declaration h.node (in_tree h.declaration h.node h.at) k p e in
+          let one : w.own ≡ x = same_Some w.own x (sym w.at ∙ in_tree p x at) in
           subst (λ (y : Node). fits h.node.kind k y.kind ≡ true) one w.fits
 
       by : (c : Kind) → h.node.kind ≡ c → is_declaration c ≡ true → (k : ℕ) → slice_get h.node.parts k ≡ Some p → IsHolder h.declaration k h.node
@@ -259,7 +228,7 @@ module _ (file : List ℕ) (t : Typed) (it : IsUnitOfFile file t) (shaped : IsSh
       by c is d k e = absurd (false≢true d)
 
   function_at : (p : ℕ) → DeclaresFunction typing p → IsFunction tree shapes typing p
-  function_at p f = functions tree it.checked.checked.texts shapes typing (is_typing file t it shaped) (holds file t it shaped) p f.0 f.1.0 f.1.1
+  function_at p f = functions tree it.checked.checked.texts shapes typing (is_typing file t it) (holds file t it) p f.0 f.1.0 f.1.1
 
   -- ---- the declaration of a declarator
 
@@ -273,7 +242,7 @@ module _ (file : List ℕ) (t : Typed) (it : IsUnitOfFile file t) (shaped : IsSh
     own = function_at r f
 
     at : slice_get t.nodes r ≡ Some own.node
-    at = ap (λ ns. slice_get ns r) (nodes_are file t it shaped) ∙ own.at
+    at = ap (λ ns. slice_get ns r) (nodes_are file t it) ∙ own.at
 
     name_is : (declarator_of t.nodes r).name ≡ Some token
     name_is = name_kind own.node.kind own.node.first token (declarator_of t.nodes r).name own.is (sym (ap (λ o. named_if o (declarator_of t.nodes r).name) at) ∙ name)
@@ -321,14 +290,14 @@ module _ (file : List ℕ) (t : Typed) (it : IsUnitOfFile file t) (shaped : IsSh
 
     placed : (p : ℕ) (h : IsHeld t.nodes p) → h.node.kind ≡ kind.Parameter → place_of tree p ≡ place.Parameter
     placed p h is =
-        ap (λ (x : Around). x.place) (shaped.parts h.declaration h.node (in_tree h.declaration h.node h.at) h.place p h.is).around
+        ap (λ (x : Around). x.place) ((shaped file t it).parts h.declaration h.node (in_tree h.declaration h.node h.at) h.place p h.is).around
         ∙ parameter_place h.node.kind h.declaration (slice_index_or tree.around.now h.declaration outermost) is
 
     declared : IsDeclarator t.nodes r → IsDeclared token r
     declared (inl h) = made r h (holder r own.node h at (named own.node.kind own.is)) (λ is. alone (placed r h is)) (inl refl)
     declared (inr h) =
         made h.outer h.held (holder h.outer h.node h.held h.at (ap names_by h.initialises))
-        (λ is. alone (ap (λ (x : Around). x.place) (shaped.parts h.outer h.node (in_tree h.outer h.node h.at) 0 r h.is).around
+        (λ is. alone (ap (λ (x : Around). x.place) ((shaped file t it).parts h.outer h.node (in_tree h.outer h.node h.at) 0 r h.is).around
         ∙ init_place h.node.kind h.outer (slice_index_or tree.around.now h.outer outermost) h.initialises ∙ placed h.outer h.held is))
         (inr (ap scripts.kind_if h.at ∙ ap Some h.initialises, ap (λ o. slice_get (scripts.parts_if o) 0) h.at ∙ h.is))
 
@@ -336,14 +305,13 @@ module _ (file : List ℕ) (t : Typed) (it : IsUnitOfFile file t) (shaped : IsSh
     any : IsDeclarator t.nodes r ⊎ IsEnumerator t.nodes r → IsDeclared token r
     any (inl h) = declared h
     any (inr h) =
-        let one : own.node ≡ h.node = some_same own.node h.node (sym at ∙ h.at) in
+        let one : own.node ≡ h.node = same_Some own.node h.node (sym at ∙ h.at) in
         absurd (false≢true (ap is_declarator (sym h.is) ∙ ap (λ (x : Node). is_declarator x.kind) (sym one) ∙ own.is))
 
   -- ---- what a call sees
 
   module _ (i : ℕ) (n : Node) (here : slice_get t.nodes i ≡ Some n) (is : n.kind ≡ kind.Call) (signature : Signature) (stands : (source_of tree it.checked.checked i).stands i ≡ a_function signature) where
-    order : AreListed t.nodes 0 t.items (length t.nodes)
-    order = order_of file t it
+    open has_unit file t it use {order}
 
     there : slice_get it.unit.nodes i ≡ Some n
     there = ap (λ ns. slice_get ns i) same_nodes ∙ here
@@ -422,7 +390,7 @@ module _ (file : List ℕ) (t : Typed) (it : IsUnitOfFile file t) (shaped : IsSh
       | inr x ↦
           (let fn = function_at p declares_it in
           let at : slice_get tree.nodes.now p ≡ Some x.1.0 = ap (λ ns. slice_get ns p) made_by.is.whole.tree.nodes ∙ ap (slice_get it.unit.nodes) x.1.1.0 ∙ x.1.1.1.0 in
-          let one : fn.node ≡ x.1.0 = some_same fn.node x.1.0 (sym fn.at ∙ at) in
+          let one : fn.node ≡ x.1.0 = same_Some fn.node x.1.0 (sym fn.at ∙ at) in
           absurd (no_init fn.node.kind (ap (λ (y : Node). y.kind) one ∙ x.1.1.1.1) fn.is))
     ]
 
@@ -445,4 +413,4 @@ module _ (file : List ℕ) (t : Typed) (it : IsUnitOfFile file t) (shaped : IsSh
     }
 
 pub seen : Laws.CallsSeeDeclarations
-seen file t it shaped i n at is signature stands = sees_function file t it shaped i n at is signature stands
+seen file t it i n at is signature stands = sees_function file t it i n at is signature stands

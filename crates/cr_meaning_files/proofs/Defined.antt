@@ -9,7 +9,6 @@ use Rattle.cr_syntax.specs.declared.ctype.CType.TheVariants as type
 use Rattle.cr_syntax.specs.declared.node.Kind.{Kind}
 use Rattle.cr_syntax.specs.declared.node.Kind.TheVariants as kind
 use Rattle.cr_syntax.specs.declared.node.Node.{Node}
-use Rattle.cr_syntax_order.specs.Listed.{AreListed}
 use Rattle.cr_scopes_events.specs.declared.event.Event.{Event}
 use Rattle.cr_scopes_events.specs.Declarators.{declarator_of}
 use Rattle.cr_scopes_events.specs.Scripts as scripts
@@ -26,43 +25,35 @@ use Rattle.cr_check_definitions.specs.Known as checks
 use Rattle.cr_check_definitions.specs.Known.{Known, kind_above}
 use Rattle.cr_check_definitions.specs.Defined.{is_definition, is_extern, is_library, open_by, is_open_if}
 use Rattle.cr_check.specs.Columns.{known_in}
-use Rattle.cr_check_types.specs.declared.shape.Shape.{Shape}
 use Rattle.cr_check_types.specs.Types.{Qualified, plain, unknown, type_at}
 use Rattle.cr_check_declarators.specs.declared.functions.Library.TheVariants as library
 use Rattle.cr_check_declarators.specs.Functions.{library_of}
 use Rattle.cr_check_expressions.specs.declared.known.Declared.TheVariants.{Object, Function, Unclear}
 use Rattle.cr_check_expressions.specs.Known as expressions
 use Rattle.cr_check_expressions.specs.Known.{meaning_by, spelling_of}
-use Rattle.cr_check_declarations.specs.declared.tree.Tree.{Tree}
-use Rattle.cr_check_unit.specs.declared.typing.Typing.{Typing}
 use Rattle.cr_typed.specs.declared.typed.Typed.{Typed}
-use Rattle.cr_typed_columns.specs.declared.checked.CheckedColumns.{CheckedColumns}
 use Rattle.cr_typed_columns.specs.Reading.{Parsed, parsed_of}
 use Rattle.cr_typed_columns.specs.Entities as entities
 use Rattle.cr_typed_columns.specs.Names as names
-use Rattle.cr_typed_unit.specs.Typed.{IsTypedBy}
 use Rattle.cr_meaning.specs.declared.op.Callee.{Callee}
 use Rattle.cr_meaning.specs.declared.op.Callee.TheVariants as callee
 use Rattle.cr_meaning.specs.declared.op.Parameter.{Parameter}
 use Rattle.cr_meaning_operations.specs.Shapes.{named_type, value_type}
 use Rattle.cr_meaning_operations.specs.Operations.{parts_at, first_if, first_at, entity_if, entity_of, function_in, spelling_if, calls, is_text, function_of, callee_of}
-use Rattle.cr_meaning_declarations.specs.Units.Owned.{AreOfUnit}
-use Rattle.cr_meaning_types.specs.Known.Shaped.{IsShaped}
-use Rattle.cr_meaning_types.specs.Known.Sighted.{AreSighted}
 use Rattle.cr_meaning_declarations.specs.Declared.Files.{IsUnitOfFile}
-use Rattle.cr_meaning_declarations.proofs.DeclaredLemmas.Nodes.{of_unit}
 use Rattle.cr_meaning_declarations.proofs.DeclaredLemmas.Bodies.{listed_at, IsThere, name_there, node_of}
 use Rattle.cr_meaning_declarations.specs.Linked.Laws.{DeclaresValue}
-use Rattle.cr_meaning_declarations.proofs.LinkedLemmas.Order.{order_of}
 use Rattle.cr_meaning_declarations.proofs.LinkedLemmas.Sorts.{values_share}
+use Rattle.cr_meaning_declarations.proofs.DeclaredLemmas.Files.{has_unit}
 use Rattle.cr_meaning_composites.specs.Chained.Laws.{DeclaresFunction}
 use Rattle.cr_meaning_composites.proofs.ChainedLemmas.Words.{value_is}
 use Rattle.cr_meaning_composites.proofs.ChainedLemmas.Known.{there, owned, function_plain}
 use Rattle.cr_meaning_composites.proofs.ChainedLemmas.Chained as chained
 use Rattle.cr_meaning_composites.proofs.ObjectsLemmas.Declaring.{IsLast, last_there, entity_of_declared, few_of, token_low}
 use Rattle.cr_meaning_composites.proofs.ObjectsLemmas.Objects.{follows_at}
-use Rattle.cr_meaning_references.proofs.KeptLemmas.Defined.{declarer_is, whole_by, entity_by, IsDefined, defined_there, IsFirst, first_node}
-use Rattle.cr_meaning_references.proofs.KeptLemmas.Kept.{sort_of}
+use Rattle.cr_meaning_composites.proofs.KeptLemmas.Defined.{whole_by, entity_by, IsDefined, defined_there, IsFirst, first_node}
+use Rattle.cr_meaning_composites.proofs.KeptLemmas.Kept.{sort_of}
+use Rattle.cr_meaning_composites.proofs.ObjectsLemmas.Statics.{declarer_is}
 use Rattle.cr_meaning_files.proofs.Names.{declare}
 use Rattle.cr_meaning_initialisation.specs.Called.Laws.{IsMeant}
 use Rattle.cr_meaning_files.specs.Meant as Laws
@@ -70,6 +61,7 @@ use Rattle.cr_meaning_files.specs.Meant.{SeesFunction}
 use Rattle.cr_meaning_files.proofs.Declarers.{seen}
 use Rattle.cr_meaning_files.proofs.Entities.{one_name}
 use Rattle.cr_meaning_files.proofs.Meant.{stands as stand}
+use Rattle.cr_meaning_references.proofs.TreesLemmas.Shaped.{shaped}
 
 -- ---- what leaves no definition open
 
@@ -125,20 +117,8 @@ definer nodes n i k e = by (scripts.kind_at nodes i) refl e
     by c q f = absurd cc
 
 module _ (file : List ℕ) (t : Typed) (it : IsUnitOfFile file t) where
-  abbrev made_by : IsTypedBy file it.unit it.names it.checked.checked t
-  made_by = it.checked.by
-
-  abbrev typing : Typing
-  typing = it.checked.checked.whole.typing
-
-  abbrev shapes : List Shape
-  shapes = it.checked.checked.table
-
-  abbrev tree : Tree
-  tree = made_by.tree
-
-  abbrev columns : CheckedColumns
-  columns = made_by.columns
+  open it use {made_by, typing, shapes, tree, columns}
+  open has_unit file t it use {unit, order, nodes_are as same_nodes, count}
 
   abbrev parsed : Parsed
   parsed = parsed_of it.unit
@@ -154,18 +134,6 @@ module _ (file : List ℕ) (t : Typed) (it : IsUnitOfFile file t) where
 
   abbrev known : Known
   known = known_in file it.unit it.checked.checked
-
-  unit : AreOfUnit t
-  unit = of_unit file t it
-
-  order : AreListed t.nodes 0 t.items (length t.nodes)
-  order = order_of file t it
-
-  same_nodes : it.unit.nodes ≡ t.nodes
-  same_nodes = sym made_by.elaborated.nodes_are
-
-  count : length t.nodes ≡ length it.unit.nodes
-  count = ap length made_by.elaborated.nodes_are
 
   -- the type that a node names in the typed unit
   type_is : (i : ℕ) → i < length t.nodes → named_type t i ≡ names.named_of parsed columns i
@@ -194,18 +162,18 @@ module _ (file : List ℕ) (t : Typed) (it : IsUnitOfFile file t) where
         (calls t i (codes "printf")) (calls t i (codes "putchar")) (calls t i (codes "exit")) (calls t i (codes "abort")) called
 
   -- what declares a function is told as a value
-  told_value : IsShaped it.checked.by.tree → (token declaration q : ℕ) (m : Node) → IsDeclarer t.nodes token declaration q m → DeclaresFunction typing q
+  told_value : (token declaration q : ℕ) (m : Node) → IsDeclarer t.nodes token declaration q m → DeclaresFunction typing q
       → is_value (scripts.role_by (scripts.storage_of t.nodes m.parts) (declarator_of t.nodes q).next) ≡ true
-  told_value shaped token declaration q m d function =
-      let o = owned file t it shaped token declaration q m d in
-      value_is (scripts.storage_of t.nodes m.parts) (declarator_of t.nodes q).next (function_plain file t it shaped declaration m d.at d.external q o.node o.at o.names o.declaration function)
+  told_value token declaration q m d function =
+      let o = owned file t it token declaration q m d in
+      value_is (scripts.storage_of t.nodes m.parts) (declarator_of t.nodes q).next (function_plain file t it declaration m d.at d.external q o.node o.at o.names o.declaration function)
 
-  module _ (shaped : IsShaped it.checked.by.tree) (sighted : AreSighted it.checked.by.tree) (token k declaration q : ℕ) (m : Node) (d : IsDeclarer t.nodes token declaration q m)
+  module _ (token k declaration q : ℕ) (m : Node) (d : IsDeclarer t.nodes token declaration q m)
       (mine : bound.declared_entity it.names token ≡ Some k) (function : DeclaresFunction typing q) where
     -- ---- what declares the entity of a function
 
     abbrev own_value : DeclaresValue t.nodes token
-    own_value = record { declaration = declaration; declarator = q; node = m; is = d; value = told_value shaped token declaration q m d function }
+    own_value = record { declaration = declaration; declarator = q; node = m; is = d; value = told_value token declaration q m d function }
 
     record IsFunction (other : ℕ) : Type 0 where
       value : DeclaresValue t.nodes other
@@ -214,11 +182,11 @@ module _ (file : List ℕ) (t : Typed) (it : IsUnitOfFile file t) where
     -- a function as well
     is_function : (other : ℕ) → bound.declared_entity it.names other ≡ Some k → IsFunction other
     is_function other its = elim (cases_lt other token) [
-      | inl less ↦ record { value = v; is = (chained.follow file t it shaped sighted token other k declaration q v.declaration v.declarator m v.node d v.is mine its function less).declares }
+      | inl less ↦ record { value = v; is = (chained.follow file t it token other k declaration q v.declaration v.declarator m v.node d v.is mine its function less).declares }
       | inr ge ↦ elim (cases_lt token other) [
-        | inl more ↦ elim (sort_of file t it shaped sighted other v) [
+        | inl more ↦ elim (sort_of file t it other v) [
           | inl object ↦
-              (let x = follows_at file t it shaped sighted other token k v.declaration v.declarator declaration q v.node m v.is d its mine object more in
+              (let x = follows_at file t it other token k v.declaration v.declarator declaration q v.node m v.is d its mine object more in
               let never : Function function.0 function.1.0 ≡ Object x.0 x.1.0 = sym function.1.1 ∙ x.1.1 in
               absurd cc)
           | inr is ↦ record { value = v; is = is }
@@ -273,7 +241,7 @@ module _ (file : List ℕ) (t : Typed) (it : IsUnitOfFile file t) where
       above : (a j : ℕ) (c : Node) → slice_get t.nodes a ≡ Some c → slice_get c.parts j ≡ Some w → kind_above known w ≡ Some c.kind
       above a j c here has =
           ap (λ column. checks.kind_if it.unit.nodes (slice_index_or column w None)) (sym made_by.is.whole.tree.above)
-          ∙ ap (checks.kind_if it.unit.nodes) (shaped.parts a c (there file t it shaped a c here) j w has).above
+          ∙ ap (checks.kind_if it.unit.nodes) ((shaped file t it).parts a c (there file t it a c here) j w has).above
           ∙ ap (λ ns. scripts.kind_at ns a) same_nodes ∙ ap scripts.kind_if here
 
       direct : o.value.is.part ≡ w
@@ -404,9 +372,9 @@ module _ (file : List ℕ) (t : Typed) (it : IsUnitOfFile file t) where
       called_there sees = subst (IsMeant file t it i) (sym it_is) (meant sees)
 
 pub define : Laws.CallsMeanDefinitions
-define file t it shaped sighted i n at call told_few signature stands parameters rest is_main called =
-    let s : SeesFunction file t it i n.first = seen file t it shaped i n at call signature stands in
-    let both = stand file t it s.token s.declaration s.declarator s.node s.declares (told_value file t it shaped s.token s.declaration s.declarator s.node s.declares s.function)
+define file t it i n at call told_few signature stands parameters rest is_main called =
+    let s : SeesFunction file t it i n.first = seen file t it i n at call signature stands in
+    let both = stand file t it s.token s.declaration s.declarator s.node s.declares (told_value file t it s.token s.declaration s.declarator s.node s.declares s.function)
     i n at (ap is_using call) told_few s.found in
-    called_there file t it shaped sighted s.token both.0 s.declaration s.declarator s.node s.declares both.1.1 s.function i n at call both.1.0
+    called_there file t it s.token both.0 s.declaration s.declarator s.node s.declares both.1.1 s.function i n at call both.1.0
     (spelled_own file t it i n at parameters rest is_main called) s.sees

@@ -1,23 +1,18 @@
 -- A name that designates an object stands for the one that the declaration which it sees declares, unless that is a parameter (C11 6.2.1p4, 6.5.1p2, 6.9p5).
 use Rattle.std.proofs.Common.{◌≡◌, ℕ, zero, suc, ◌<◌, ◌≤◌, ◌==◌, ◌&&◌, ◌||◌, ◌⊎◌, inl, inr, Bool, true, false, List, Option, None, Some, length, slice_get, slice_index_or, refl, sym, ap, subst, ◌∙◌, arith}
 use Rattle.std.proofs.lemmas.Bool.{cases_lt, false≢true, and_parts, eqb-true}
+use Rattle.std.proofs.lemmas.Option.{same_Some}
 use Rattle.cr_syntax.specs.declared.node.Kind.{Kind}
 use Rattle.cr_syntax.specs.declared.node.Kind.TheVariants as kind
 use Rattle.cr_syntax.specs.declared.node.Node.{Node as SyntaxNode}
-use Rattle.cr_syntax_order.specs.Listed.{AreListed}
 use Rattle.cr_scopes_events.specs.declared.event.Role.{Role}
 use Rattle.cr_scopes_events.specs.declared.event.Role.TheVariants as role
 use Rattle.cr_scopes_events.specs.declared.event.Event.{Event}
 use Rattle.cr_scopes_events.specs.declared.event.Event.TheVariants.{Node, Opens, Closes, Name, Member}
-use Rattle.cr_scopes_events.specs.declared.naming.Storage.{Storage}
-use Rattle.cr_scopes_events.specs.declared.naming.Storage.TheVariants.{TypedefWord, ExternWord, NoWord}
-use Rattle.cr_scopes_events.specs.declared.declarator.Derivation.{Derivation}
-use Rattle.cr_scopes_events.specs.declared.declarator.Derivation.TheVariants.{Nothing, Function as Derived, Other}
 use Rattle.cr_scopes_events.specs.declared.declarator.Declarator.{Declarator as Named}
 use Rattle.cr_scopes_events.specs.Values.{before}
 use Rattle.cr_scopes_events.specs.Declarators.{nowhere, declared_if, declarator_of}
 use Rattle.cr_scopes_events.specs.Scripts as scripts
-use Rattle.cr_scopes_events.specs.Scripts.{role_by}
 use Rattle.cr_scopes_events.proofs.Descents.{declarator_ruled}
 use Rattle.cr_scopes.specs.declared.scope.Space.TheVariants.{Ordinary}
 use Rattle.cr_scopes.specs.Faults.{is_typedef}
@@ -27,7 +22,7 @@ use Rattle.cr_scopes.specs.Units.{unit_events}
 use Rattle.cr_scopes_bindings.specs.Nodes.{named_by, named_if, name_at}
 use Rattle.cr_scopes_visibility.specs.Once.Told.{count_of}
 use Rattle.cr_scopes_linkage.specs.Shared.Sorts.{is_value, is_tag}
-use Rattle.cr_scopes_linkage.specs.Shared.Origins.{is_external, IsTold, declared, tagged, otherwise}
+use Rattle.cr_scopes_linkage.specs.Shared.Origins.{IsTold, declared, tagged, otherwise}
 use Rattle.cr_scopes_visibility.specs.Sight.Scopes.{is_using}
 use Rattle.cr_scopes_typedef_names.specs.Tellings.Tellings as tellings
 use Rattle.cr_scopes_typedef_names.specs.Tellings.Tellings.{is_enumerator, Telling, by_declaration, by_parameter, by_enumerator, by_tag, by_use}
@@ -38,59 +33,41 @@ use Rattle.cr_check_declarators.specs.declared.words.Specified.{Specified}
 use Rattle.cr_check_declarators.specs.declared.declarator.Declarator.{Declarator}
 use Rattle.cr_check_declarators.specs.declared.enumerators.Enumerated.{Enumerated}
 use Rattle.cr_check_declarations.specs.Named.{declared_by}
-use Rattle.cr_check_unit.specs.declared.typing.Typing.{Typing}
 use Rattle.cr_typed.specs.declared.typed.Typed.{Typed}
-use Rattle.cr_typed_unit.specs.Typed.{IsTypedBy}
-use Rattle.cr_meaning_declarations.specs.Units.Owned.{AreOfUnit}
-use Rattle.cr_meaning_types.specs.Known.Shaped.{IsShaped}
-use Rattle.cr_meaning_types.specs.Known.Sighted.{AreSighted}
 use Rattle.cr_meaning_declarations.specs.Declared.Files.{IsUnitOfFile}
-use Rattle.cr_meaning_declarations.proofs.DeclaredLemmas.Nodes.{of_unit}
 use Rattle.cr_meaning_declarations.proofs.DeclaredLemmas.Bodies.{node_of}
 use Rattle.cr_meaning_typing.specs.Judged.Judged.{seen_in}
-use Rattle.cr_meaning_declarations.proofs.LinkedLemmas.Order.{order_of}
+use Rattle.cr_meaning_declarations.proofs.DeclaredLemmas.Files.{has_unit}
 use Rattle.cr_meaning_references.proofs.ToldLemmas.Orderly.{apart}
-use Rattle.cr_meaning_composites.proofs.MainsLemmas.Defined.{At, is_told, telling}
+use Rattle.cr_meaning_composites.proofs.MainsLemmas.Defined.{At, is_told, telling, value_or_type}
 use Rattle.cr_meaning_composites.specs.Objects.Laws.{DeclaresObject}
 use Rattle.cr_meaning_composites.proofs.ObjectsLemmas.Objects.{value_there}
 use Rattle.cr_meaning_composites.proofs.ObjectsLemmas.Statics.{no_constant, enumerator_nameless}
-use Rattle.cr_meaning_references.specs.Kept.Laws.{SeesObject}
-use Rattle.cr_meaning_references.proofs.KeptLemmas.Kept.{keep}
-use Rattle.cr_meaning_references.proofs.KeptLemmas.Seen.{see}
+use Rattle.cr_meaning_composites.specs.Kept.Laws.{SeesObject}
+use Rattle.cr_meaning_composites.proofs.KeptLemmas.Kept.{keep}
+use Rattle.cr_meaning_composites.proofs.KeptLemmas.Seen.{see}
 use Rattle.cr_meaning_files.specs.Celled as Laws
-use Rattle.cr_meaning_files.specs.Celled.{StandsForObject, SeesDeclared, SeesParameter}
+use Rattle.cr_meaning_files.specs.Celled.{SeesDeclared, SeesParameter}
 use Rattle.cr_meaning_files.proofs.Meant.{before_declared, mean}
 use Rattle.cr_meaning_files.proofs.Names as names
 use Rattle.cr_meaning_files.proofs.Types.{ruled_at}
-
-some_same : {A : Type 0} (x y : A) → Some x ≡ Some y → x ≡ y
-some_same x y e = cc
+use Rattle.cr_meaning_initialisation.proofs.CalledLemmas.Meant.{declares_kind as external_declares}
 
 -- ---- what declares an object
 
 -- its entity has a definition, so the first declaration of it is one of the program
 
 pub stand_for : Laws.NamesStandForObjects
-stand_for file t it shaped sighted i n at is few token declaration q m declarer object seen =
-    let x = mean file t it i n at (ap is_using is) few token declaration q m declarer (value_there file t it shaped sighted token declaration q m declarer object) seen in
+stand_for file t it i n at is few token declaration q m declarer object seen =
+    let x = mean file t it i n at (ap is_using is) few token declaration q m declarer (value_there file t it token declaration q m declarer object) seen in
     record {
       entity = x.0;
       stands = x.1.0;
       declares = x.1.1;
-      kept = keep file t it shaped sighted i token x.0 declaration q n m at is x.1.0 declarer x.1.1 object;
+      kept = keep file t it i token x.0 declaration q n m at is x.1.0 declarer x.1.1 object;
     }
 
 -- ---- roles
-
--- what a declaration tells is a value or a type
-value_or_type : (s : Storage) (next : Derivation) → (is_value (role_by s next) ≡ true) ⊎ (is_typedef (role_by s next) ≡ true)
-value_or_type TypedefWord next = inr refl
-value_or_type ExternWord Nothing = inl refl
-value_or_type ExternWord (Derived f) = inl refl
-value_or_type ExternWord Other = inl refl
-value_or_type NoWord Nothing = inl refl
-value_or_type NoWord (Derived f) = inl refl
-value_or_type NoWord Other = inl refl
 
 no_tag : (r : Role) → is_tag r ≡ true → stands_in Ordinary r ≡ true → ⊥
 no_tag role.Content h e = false≢true e
@@ -110,11 +87,6 @@ no_use r e h = false≢true (ap (stands_in Ordinary) (sym e) ∙ h)
 enumerator_only : (k : Kind) → is_enumerator k ≡ true → k ≡ kind.Enumerator
 enumerator_only kind.Enumerator h = refl
 enumerator_only k h = absurd (false≢true h)
-
-external_declares : (k : Kind) → is_external k ≡ true → is_declaration k ≡ true
-external_declares kind.Declaration h = refl
-external_declares kind.FunctionDefinition h = refl
-external_declares k h = absurd (false≢true h)
 
 parameter_declares : (k : Kind) → tellings.is_parameter k ≡ true → is_declaration k ≡ true
 parameter_declares kind.Parameter h = refl
@@ -155,20 +127,8 @@ event_of events token (suc n) h = by (slice_get events n) refl h (λ g. event_of
     by (Some (Node i)) e g rest = rest g
 
 module _ (file : List ℕ) (t : Typed) (it : IsUnitOfFile file t) where
-  unit : AreOfUnit t
-  unit = of_unit file t it
-
-  order : AreListed t.nodes 0 t.items (length t.nodes)
-  order = order_of file t it
-
-  abbrev made_by : IsTypedBy file it.unit it.names it.checked.checked t
-  made_by = it.checked.by
-
-  abbrev typing : Typing
-  typing = it.checked.checked.whole.typing
-
-  nodes_are : it.unit.nodes ≡ t.nodes
-  nodes_are = sym made_by.elaborated.nodes_are
+  open it use {made_by, typing}
+  open has_unit file t it use {unit, order, nodes_are}
 
   abbrev events : List Event
   events = unit_events it.unit
@@ -209,20 +169,20 @@ module _ (file : List ℕ) (t : Typed) (it : IsUnitOfFile file t) where
           absurd cc
       by (Some o) at = ap (λ x. named_if x (declarator_of t.nodes w).name) at ∙ of_kind o at o.kind refl
 
-  module _ (shaped : IsShaped it.checked.by.tree) (sighted : AreSighted it.checked.by.tree) (i : ℕ) (n : SyntaxNode) (at : slice_get t.nodes i ≡ Some n) (is : n.kind ≡ kind.Identifier)
+  module _ (i : ℕ) (n : SyntaxNode) (at : slice_get t.nodes i ≡ Some n) (is : n.kind ≡ kind.Identifier)
       (lvalue : (seen_in it.checked.checked i).lvalue ≡ true) (few : count_of n.first (unit_events it.unit) ≤ 1) where
     s : SeesObject file t it n.first
-    s = see file t it shaped sighted i n at is lvalue
+    s = see file t it i n at is lvalue
 
     found : (names.finds file t it i n at is few).declared ≡ s.token
-    found = some_same (names.finds file t it i n at is few).declared s.token (sym (names.column file t it i n at is few) ∙ s.visible)
+    found = same_Some (names.finds file t it i n at is few).declared s.token (sym (names.column file t it i n at is few) ∙ s.visible)
 
     abbrev whole : ℕ
     whole = (names.declared file t it i n at is few).declarer
 
     whole_is : whole ≡ s.declarator
     whole_is =
-        some_same whole s.declarator (sym (names.declarer file t it i n at is few) ∙ ap (λ x. slice_index_or it.checked.checked.surroundings.bindings.declarers x None) found ∙ s.declares)
+        same_Some whole s.declarator (sym (names.declarer file t it i n at is few) ∙ ap (λ x. slice_index_or it.checked.checked.surroundings.bindings.declarers x None) found ∙ s.declares)
 
     whole_names : name_at t.nodes whole ≡ Some s.token
     whole_names = names.names_it file t it i n at is few ∙ ap Some found
@@ -292,7 +252,7 @@ module _ (file : List ℕ) (t : Typed) (it : IsUnitOfFile file t) where
           node = m;
           is = x;
           object = object;
-          stands = stand_for file t it shaped sighted i n at is few s.token d q m x object s.visible;
+          stands = stand_for file t it i n at is few s.token d q m x object s.visible;
         })
     by_told r o (tagged d m there is_tagged e tags) h = absurd (no_tag r tags o)
     by_told r o (otherwise v y z) h = by_telling r o v y h
@@ -301,4 +261,4 @@ module _ (file : List ℕ) (t : Typed) (it : IsUnitOfFile file t) where
     place = by_told event.own event.ordinary (is_told file t it s.token event.place event.own event.at) (telling file t it s.token event.place event.own event.at)
 
 pub places : Laws.PlacesStandForObjects
-places file t it shaped sighted i n at is lvalue few = place file t it shaped sighted i n at is lvalue few
+places file t it i n at is lvalue few = place file t it i n at is lvalue few

@@ -2,54 +2,53 @@
 use Rattle.std.proofs.Common.{◌≡◌, ℕ, zero, suc, ◌+◌, ◌<◌, ◌≤◌, ◌==◌, ◌⊎◌, inl, inr, Bool, true, false, ◌&&◌, ◌||◌, not, nat_lt, List, Option, None, Some, length, slice_get, slice_index_or, refl, sym, ap, subst, ◌∙◌, arith}
 use Rattle.std.specs.Option.{is_some}
 use Rattle.std.proofs.lemmas.Bool.{false≢true, and_parts, or_left, or_right, eqb-true, ne_eqb, lt-ltb, ltb-true}
-use Rattle.std.proofs.lemmas.Option.{slice_get_within}
+use Rattle.std.proofs.lemmas.Option.{slice_get_within, same_Some}
 use Rattle.cr_syntax.specs.declared.node.Kind.{Kind}
 use Rattle.cr_syntax.specs.declared.node.Kind.TheVariants as kind
 use Rattle.cr_syntax.specs.declared.node.Node.{Node}
 use Rattle.cr_syntax.specs.Tables.{rule_of, side_of}
 use Rattle.cr_syntax.specs.Kept.{row_in}
-use Rattle.cr_syntax_nodes.specs.Nodes.{least, most}
+use Rattle.cr_syntax_nodes.specs.Nodes.{least}
 use Rattle.cr_scopes_visibility.specs.Sight.Scopes.{is_using}
 use Rattle.cr_check_enclosing.specs.Above.{above_of}
-use Rattle.cr_check_types.specs.declared.shape.Shape.{Shape}
 use Rattle.cr_check_expressions.specs.Forms.{form_of}
 use Rattle.cr_check_expressions.specs.Ruled.{is_typed, facts_at}
-use Rattle.cr_check_declarations.specs.declared.tree.Tree.{Tree}
 use Rattle.cr_check_declarations.specs.Named.{is_declarator}
 use Rattle.cr_check_initialisers.specs.Known.{is_list_if}
-use Rattle.cr_check_unit.specs.declared.typing.Typing.{Typing}
 use Rattle.cr_check_constant_values.specs.Anchored.Anchored.{is_anchored, is_operand, Initialises, itself, listed}
 use Rattle.cr_check_constant_values.proofs.AnchoredLemmas.Anchoring as anchoring
 use Rattle.cr_check_constant_values.proofs.AnchoredLemmas.Filling as filling
 use Rattle.cr_typed.specs.declared.typed.Typed.{Typed}
 use Rattle.cr_typed.specs.declared.typed.Duration.TheVariants as duration
-use Rattle.cr_typed_unit.specs.Typed.{IsTypedBy}
 use Rattle.cr_meaning_operations.specs.Operations.{kind_if, kind_at, parts_if, parts_at, part_at, entity_of, is_automatic_by, is_automatic, is_case, is_declaration, is_static, is_static_initialiser, nodes_from}
 use Rattle.cr_meaning_typing.specs.Typed.Typing.{has_value, is_expression}
 use Rattle.cr_meaning_typing.specs.Judged.Judged.{seen_in}
-use Rattle.cr_meaning_declarations.specs.Units.Owned.{AreOfUnit}
 use Rattle.cr_meaning_declarations.proofs.UnitsLemmas.Rows.{clear_side, clear_laid, clear_at}
 use Rattle.cr_meaning_declarations.proofs.UnitsLemmas.Handing.{laid_at, parts_below}
 use Rattle.cr_meaning_declarations.proofs.NamesLemmas.Parents.{IsPartOf, part_below, above_some}
 use Rattle.cr_meaning_typing.specs.Sorts.Founded.{parts_of}
 use Rattle.cr_meaning_typing.proofs.WholeLemmas.Whole.{is_initialiser}
 use Rattle.cr_meaning_types.specs.Known.Shaped.{is_type_name, fits}
-use Rattle.cr_meaning_types.specs.Known.Sighted.{AreSighted}
+use Rattle.cr_meaning_types.proofs.KnownLemmas.Reading.{row}
 use Rattle.cr_meaning_declarations.specs.Declared.Files.{IsUnitOfFile}
 use Rattle.cr_meaning_declarations.specs.Sight.Under.{is_under}
 use Rattle.cr_meaning_declarations.proofs.SightLemmas.Under.{under_at, outermost_outside}
+use Rattle.cr_meaning_declarations.proofs.DeclaredLemmas.Files.{has_unit, tree_of}
+use Rattle.cr_meaning_declarations.proofs.LastingLemmas.Begun.{one_of}
 use Rattle.cr_meaning_references.proofs.ConstantLemmas.Names.{last}
 use Rattle.cr_meaning_files.specs.Reached.{is_item, is_size, is_declaring, is_list, is_listing, is_definition, is_block, is_going, goes_on, lives_below, lives, is_reached}
 use Rattle.cr_meaning_files.specs.Local.{is_early}
-use Rattle.cr_meaning_files.proofs.Grammar.{part_in, Stands, row}
+use Rattle.cr_meaning_references.proofs.TreesLemmas.Grammar.{part_in, Stands}
 use Rattle.cr_meaning_files.proofs.Tables.{initialiser_there, counts, counted_there}
-use Rattle.cr_meaning_files.proofs.Tree.{has_part, exactly, at_most, needed}
-use Rattle.cr_meaning_files.proofs.Living.{one_of, lives_is, reached_lives}
-use Rattle.cr_meaning_files.proofs.Filling.{unit, nodes_are, listed_is, found}
-use Rattle.cr_meaning_files.proofs.Shaped.{shaped}
+use Rattle.cr_meaning_references.proofs.TreesLemmas.Tree.{has_part, exactly, at_most, needed}
+use Rattle.cr_meaning_references.proofs.TreesLemmas.Shaped.{shaped}
+use Rattle.cr_meaning_references.proofs.TreesLemmas.Fitting.{initialised_counts as init_counts}
+use Rattle.cr_meaning_files.proofs.Living.{lives_is, reached_lives}
+use Rattle.cr_meaning_files.proofs.Filling.{listed_is}
 use Rattle.cr_meaning_files.proofs.Lists.{is_inner, is_outer, no_inner, outermost}
 use Rattle.cr_meaning_files.proofs.Outside.{told_once}
-use Rattle.cr_meaning_files.proofs.Planned.{value_type, planned, lasting}
+use Rattle.cr_meaning_files.proofs.Planned.{value_type, planned, lasting, init_counts as init_needs}
+use Rattle.cr_scopes_linkage.proofs.SharedLemmas.Shared.{found}
 
 -- ---- the grammar
 
@@ -76,10 +75,6 @@ listing_is kind.InitDeclarator h = inl refl
 listing_is kind.InitializerList h = inr refl
 listing_is k h = absurd (false≢true h)
 
-only_list : (k : Kind) → is_list k ≡ true → k ≡ kind.InitializerList
-only_list kind.InitializerList h = refl
-only_list k h = absurd (false≢true h)
-
 only_static : (t : Typed) (a : ℕ) (k : Kind) → is_static_initialiser t a k ≡ true → (k ≡ kind.InitDeclarator) × (is_static t a ≡ true)
 only_static t a kind.InitDeclarator h = (refl, h)
 only_static t a k h = absurd (false≢true h)
@@ -100,15 +95,7 @@ type_name_plain : (k : Kind) → (not (is_type_name k) || not (is_expression (fo
 type_name_plain kind.TypeName = refl
 type_name_plain k = refl
 
-pub init_counts : most (side_of kind.InitDeclarator) ≡ Some 2
-unfolding rule_of
-init_counts = refl
-
-init_needs : nat_lt 1 (least (side_of kind.InitDeclarator)) ≡ true
-unfolding rule_of
-init_needs = refl
-
-never : (b : Bool) → not b ≡ true → b ≡ true → ⊥
+pub never : (b : Bool) → not b ≡ true → b ≡ true → ⊥
 never true h e = false≢true h
 never false h e = false≢true e
 
@@ -187,27 +174,15 @@ operand_at c k h cast range = by (parts_of (form_of c)) refl
     ]
     by (Some m) e = of_place m k e (range m e) cast
 
-module _ (file : List ℕ) (t : Typed) (it : IsUnitOfFile file t) (sighted : AreSighted it.checked.by.tree) (worth : (i : ℕ) → is_expression (form_of (kind_at t i)) ≡ true → has_value (seen_in it.checked.checked i).type ≡ true) where
-  abbrev u : AreOfUnit t
-  u = unit file t it
-
-  abbrev made_by : IsTypedBy file it.unit it.names it.checked.checked t
-  made_by = it.checked.by
-
-  abbrev typing : Typing
-  typing = it.checked.checked.whole.typing
-
-  abbrev shapes : List Shape
-  shapes = it.checked.checked.table
-
-  abbrev tree : Tree
-  tree = made_by.tree
+module _ (file : List ℕ) (t : Typed) (it : IsUnitOfFile file t) (worth : (i : ℕ) → is_expression (form_of (kind_at t i)) ≡ true → has_value (seen_in it.checked.checked i).type ≡ true) where
+  open it use {made_by, typing, shapes, tree}
+  open has_unit file t it use {unit as u}
 
   abbrev above : ℕ → Option ℕ
   above a = above_of t.nodes (length t.nodes) a
 
   here : (i : ℕ) (n : Node) → slice_get t.nodes i ≡ Some n → slice_get tree.nodes.now i ≡ Some n
-  here i n at = ap (λ ns. slice_get ns i) (nodes_are file t it) ∙ at
+  here i n at = ap (λ ns. slice_get ns i) (tree_of file t it) ∙ at
 
   parts_low : (i k part : ℕ) (n : Node) → slice_get tree.nodes.now i ≡ Some n → slice_get n.parts k ≡ Some part → part < i
   parts_low i k part n at e = ((shaped file t it).parts i n at k part e).below
@@ -240,7 +215,7 @@ module _ (file : List ℕ) (t : Typed) (it : IsUnitOfFile file t) (sighted : Are
       no_type cast zeroed =
           let p = (shaped file t it).parts i n (here i n at) 0 a (subst (λ x. slice_get n.parts x ≡ Some a) zeroed e) in
           let named : is_type_name p.own.kind ≡ true = sym (ap (λ c. fits_at c p.own.kind) (only_cast n.kind cast)) ∙ p.fits in
-          let kind_is : kind_at t a ≡ p.own.kind = ap kind_if (ap (λ ns. slice_get ns a) (sym (nodes_are file t it)) ∙ p.at) in
+          let kind_is : kind_at t a ≡ p.own.kind = ap kind_if (ap (λ ns. slice_get ns a) (sym (tree_of file t it)) ∙ p.at) in
           never (is_expression (form_of p.own.kind)) (row _ _ (type_name_plain p.own.kind) named) (sym (ap (λ c. is_expression (form_of c)) kind_is) ∙ expression)
         where
           fits_at : Kind → Kind → Bool
@@ -269,7 +244,7 @@ module _ (file : List ℕ) (t : Typed) (it : IsUnitOfFile file t) (sighted : Are
   initial_there : {j top : ℕ} → Initialises tree.nodes.now j top → is_initial top ≡ true → is_initial j ≡ true
   initial_there itself h = h
   initial_there {top = top} (listed {part = part} k n at is e rest) h =
-      let there : slice_get t.nodes top ≡ Some n = ap (λ ns. slice_get ns top) (sym (nodes_are file t it)) ∙ at in
+      let there : slice_get t.nodes top ≡ Some n = ap (λ ns. slice_get ns top) (sym (tree_of file t it)) ∙ at in
       initial_there rest (list_part top k part (ap kind_if there ∙ is) (ap (λ o. slice_get (parts_if o) k) there ∙ e))
 
   from_list : (y a : ℕ) → IsPartOf t u a y → kind_at t y ≡ kind.InitializerList → Holds y → Holds a
@@ -342,9 +317,9 @@ module _ (file : List ℕ) (t : Typed) (it : IsUnitOfFile file t) (sighted : Are
 
     initialisers : (j : ℕ) → Initialises tree.nodes.now j (part_at t d 1) → is_list_if (slice_get tree.nodes.now j) ≡ false → is_anchored shapes typing j ≡ true
     initialisers j inside single =
-        let p = planned file t it sighted d n at is static in
+        let p = planned file t it d n at is static in
         filling.initialisers tree it.checked.checked.texts shapes typing made_by.is.whole.typing (λ b broken. made_by.sound.constraints b (inl broken)) parts_low d j (record { type = p.0; initialiser = part_at t d 1 }) n (here d n at)
-        p.1 (lasting file t it sighted d n at is static) typed inside single
+        p.1 (lasting file t it d n at is static) typed inside single
 
     second_holds : Holds (part_at t d 1)
     second_holds = (
@@ -359,12 +334,9 @@ module _ (file : List ℕ) (t : Typed) (it : IsUnitOfFile file t) (sighted : Are
         by zero e =
             let h = (shaped file t it).parts d n (here d n at) 0 a (sym (ap (λ o. slice_get (parts_if o) 0) at) ∙ e) in
             let declares : is_declarator h.own.kind ≡ true = sym (ap (λ c. fits c 0 h.own.kind) is) ∙ h.fits in
-            let same : kind_at t a ≡ h.own.kind = ap kind_if (ap (λ ns. slice_get ns a) (sym (nodes_are file t it)) ∙ h.at) in
+            let same : kind_at t a ≡ h.own.kind = ap kind_if (ap (λ ns. slice_get ns a) (sym (tree_of file t it)) ∙ h.at) in
             absurd (never (is_expression (form_of h.own.kind) || is_list h.own.kind) (row _ _ (declarator_plain h.own.kind) declares) (sym (ap (λ c. is_expression (form_of c) || is_list c) same) ∙ initial))
-        by (suc zero) e = subst Holds (some_same (part_at t d 1) a (sym second_is ∙ e)) second_holds
-          where
-            some_same : (x y : ℕ) → Some x ≡ Some y → x ≡ y
-            some_same x y e = cc e
+        by (suc zero) e = subst Holds (same_Some (part_at t d 1) a (sym second_is ∙ e)) second_holds
         by (suc (suc k)) e =
             let few = at_most t u d kind.InitDeclarator 2 kind_is refl init_counts in
             let within = slice_get_within (parts_at t d) (suc (suc k)) a e in
@@ -449,7 +421,7 @@ module _ (file : List ℕ) (t : Typed) (it : IsUnitOfFile file t) (sighted : Are
       let initial = is_initialiser t start.place start.item start.at in
       let d = there start.item initial in
       let held = anchored_under start.item d.0 d.1.0 d.1.1 (only_static t start.item (kind_at t start.item) initial).1 (length t.nodes) i (omega arith) start.passes (reached_lives t u i r) in
-      last file t it (shaped file t it) i n at is lvalue (held.0 (ap (λ k. is_expression (form_of k)) (ap kind_if at ∙ is))) (told_once file t it i n at (ap is_using is) r)
+      last file t it i n at is lvalue (held.0 (ap (λ k. is_expression (form_of k)) (ap kind_if at ∙ is))) (told_once file t it i n at (ap is_using is) r)
 
   -- so the name of an automatic object stands in no initialiser that is executed before main
   pub automatic_late : (i : ℕ) (n : Node) → slice_get t.nodes i ≡ Some n → n.kind ≡ kind.Identifier → is_reached t i ≡ true → (seen_in it.checked.checked i).lvalue ≡ true

@@ -1,6 +1,5 @@
 -- The cells of an object are whole elements of an array that its name is, since the composite type has the same elements.
-use Rattle.std.proofs.Common.{◌≡◌, ℕ, zero, suc, ◌+◌, ◌*◌, ◌%◌, ◌≤◌, List, length, Bool, refl, sym, ap, subst, ◌∙◌, arith, if◌then◌else◌, mul_assoc, suc-mul}
-use Rattle.std.proofs.Math.Nat.{add-mul-mod_self_right}
+use Rattle.std.proofs.Common.{◌≡◌, ℕ, zero, suc, ◌+◌, ◌*◌, ◌≤◌, List, length, Bool, refl, sym, ap, subst, ◌∙◌, arith, if◌then◌else◌, mul_assoc, suc-mul, ◌%◌}
 use Rattle.std.proofs.lemmas.Bool.{ne_eqb}
 use Rattle.cr_syntax.specs.declared.ctype.CType.{CType}
 use Rattle.cr_syntax.specs.declared.ctype.CType.TheVariants.{Int, Struct}
@@ -16,6 +15,7 @@ use Rattle.cr_meaning_typing.specs.Typed.Placed.{IsObject}
 use Rattle.cr_meaning_initialisation.specs.Initialised.Composites.{IsSized}
 use Rattle.cr_meaning_files.specs.Celled as Laws
 use Rattle.cr_meaning_files.specs.Celled.{HasSizedElements}
+use Rattle.cr_meaning_files.proofs.Cells.{exact, less_exact, multiple}
 
 -- ---- a type of known size has its cells
 
@@ -44,12 +44,6 @@ same_cells t one other h = (λ j. (times (counts one other h j) (singles t.layou
 
 -- ---- those of an array are those of its elements
 
-less_exact : (x y rest : ℕ) → x ≡ rest + y → fitted x ≤ MOST_CELLS → fitted y ≡ y
-less_exact x y rest e few = omega (arith, e, few)
-
-exact : (x : ℕ) → fitted x ≤ MOST_CELLS → fitted x ≡ x
-exact x few = omega (arith, few)
-
 elements : (n c s : ℕ) → fitted (n * c * s) ≤ MOST_CELLS → 1 ≤ n → fitted (n * c * s) ≡ n * fitted (c * s)
 elements zero c s few some = absurd (omega (arith, some))
 elements (suc m) c s few some =
@@ -60,12 +54,6 @@ elements (suc m) c s few some =
 some_elements : (n c s : ℕ) → 1 ≤ fitted (n * c * s) → 1 ≤ n
 some_elements zero c s some = absurd (omega (arith, some))
 some_elements (suc m) c s some = omega arith
-
-no_rest : (n : ℕ) → 0 % n ≡ 0
-no_rest n = omega arith
-
-multiple : (x n y : ℕ) → x ≡ n * y → x % y ≡ 0
-multiple x n y e = let zeroed : x ≡ 0 + n * y = e ∙ omega arith in ap (λ m. m % y) zeroed ∙ add-mul-mod_self_right 0 n y ∙ no_rest y
 
 some_factor : (x n y : ℕ) → x ≡ n * y → 1 ≤ x → 1 ≤ y
 some_factor x n zero e some = let none : n * 0 ≡ 0 = omega arith in absurd (omega (arith, e, none, some))

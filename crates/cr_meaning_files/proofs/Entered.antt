@@ -3,27 +3,24 @@ use Rattle.std.proofs.Common.{◌≡◌, ℕ, zero, suc, ◌+◌, ◌<◌, ◌�
 use Rattle.std.specs.Prelude.{option_to_list}
 use Rattle.std.specs.List.{list_any, flat_map}
 use Rattle.std.specs.Option.{is_some}
-use Rattle.std.proofs.lemmas.Bool.{false≢true, and_from, or_parts, cases_lt, lt-ltb, or_left, or_right, eqb-true, eq-eqb}
-use Rattle.std.proofs.lemmas.Option.{slice_get_within}
+use Rattle.std.proofs.lemmas.Bool.{false≢true, and_from, cases_lt, lt-ltb, or_left, or_right, eqb-true, eq-eqb}
+use Rattle.std.proofs.lemmas.Option.{slice_get_within, same_Some}
 use Rattle.cr_syntax.specs.declared.node.Kind.{Kind}
 use Rattle.cr_syntax.specs.declared.node.Kind.TheVariants as kind
 use Rattle.cr_syntax.specs.declared.node.Node.{Node}
 use Rattle.cr_syntax.specs.Tables.{rule_of, side_of}
 use Rattle.cr_syntax_nodes.proofs.Numbers.{some_at}
-use Rattle.cr_syntax_order.specs.Listed.{AreListed}
-use Rattle.cr_syntax_nodes.specs.Nodes.{most}
 use Rattle.cr_scopes_events.specs.Values.{before}
 use Rattle.cr_scopes_events.specs.declared.declarator.Declarator.{Declarator as Named}
 use Rattle.cr_scopes_events.specs.Declarators.{nowhere, declared_by as names_by, declared_if, declarator_of}
 use Rattle.cr_scopes_events.specs.Scripts as scripts
 use Rattle.cr_scopes_events.proofs.Descents.{declarator_ruled}
 use Rattle.cr_scopes_linkage.specs.Shared.Origins.{is_external}
-use Rattle.cr_check_types.specs.Types.{Qualified}
 use Rattle.cr_check_expressions.specs.Known.{spelling_of}
 use Rattle.cr_check_expressions.specs.Forms.{form_of}
 use Rattle.cr_check_declarators.specs.declared.declarator.Declarator.{Declarator}
 use Rattle.cr_check_declarators.specs.declared.enumerators.Enumerated.{Enumerated}
-use Rattle.cr_check_declarators.specs.Declarators.{name_alone, function_by, is_hole_type, function_fault_of, may_return, is_declared as is_declared_there}
+use Rattle.cr_check_declarators.specs.Declarators.{name_alone, function_by, is_hole_type}
 use Rattle.cr_check_declarations.specs.Before.{kind_in, kind_if as kind_of_node, specified_in}
 use Rattle.cr_check_declarations.specs.Declarators.{declarator_by, inner_derived}
 use Rattle.cr_check_declarations.specs.Before.{declarator_in}
@@ -33,24 +30,22 @@ use Rattle.cr_check_unit.specs.Typing.{cut, entry_at, before_in}
 use Rattle.cr_meaning_typing.specs.Typed.Laws.{HoldsAll}
 use Rattle.cr_meaning_typing.specs.Typed.Typing.{is_expression}
 use Rattle.cr_meaning_types.specs.Known.Shaped.{fits}
-use Rattle.cr_meaning_types.proofs.KnownLemmas.Declaring.{declarator_holds}
+use Rattle.cr_meaning_types.proofs.KnownLemmas.Declaring.{declarator_holds, in_place}
+use Rattle.cr_meaning_types.proofs.KnownLemmas.Reading.{row}
 use Rattle.cr_meaning_composites.proofs.ChainedLemmas.Known.{definitions}
 use Rattle.cr_meaning_composites.proofs.ObjectsLemmas.Alone.{value_made}
 use Rattle.cr_meaning_composites.proofs.ObjectsLemmas.Declaring.{IsLast, last_there}
-use Rattle.cr_meaning_composites.proofs.ObjectsLemmas.Statics.{no_constant, object_if, only_initialised}
-use Rattle.cr_meaning_files.proofs.Living.{one_of}
+use Rattle.cr_meaning_composites.proofs.ObjectsLemmas.Statics.{no_constant, object_if, only_initialised, last_below}
+use Rattle.cr_meaning_composites.proofs.ParametersLemmas.Parameters.{parameter_place as place_parameter}
 use Rattle.cr_meaning_files.proofs.Lists.{list_counts}
 use Rattle.cr_meaning_files.proofs.Parameters.{found_below, unit_parts, parameters_are, named_locally}
 use Rattle.cr_meaning_files.proofs.Lasting.{static_seen}
-use Rattle.cr_meaning_files.proofs.Grammar.{row}
 use Rattle.cr_meaning_files.proofs.Tables.{initialiser_there}
-use Rattle.cr_meaning_files.proofs.Tree.{at_most}
+use Rattle.cr_meaning_references.proofs.TreesLemmas.Tree.{at_most}
 use Rattle.cr_meaning_files.proofs.Filling.{ruled}
 use Rattle.cr_meaning_files.proofs.Mains.{body_only}
-use Rattle.cr_meaning_files.proofs.Results.{all, function_holds}
-use Rattle.cr_meaning_files.proofs.Shaped.{shaped}
-use Rattle.cr_meaning_files.proofs.Early.{declarator_plain, init_counts}
-use Rattle.cr_scopes.specs.Resolved.{is_number}
+use Rattle.cr_meaning_files.proofs.Results.{all}
+use Rattle.cr_meaning_files.proofs.Early.{declarator_plain, never}
 use Rattle.cr_scopes_bindings.specs.Last.{last_with}
 use Rattle.cr_scopes_bindings.specs.Nodes.{name_at}
 use Rattle.cr_check_enclosing.specs.declared.context.Place.{Place}
@@ -58,43 +53,46 @@ use Rattle.cr_check_enclosing.specs.declared.context.Place.TheVariants as place
 use Rattle.cr_check_enclosing.specs.declared.context.Around.{Around}
 use Rattle.cr_check_enclosing.specs.Above.{above_of}
 use Rattle.cr_check_enclosing.specs.Around.{outermost, inside, below}
-use Rattle.cr_check_types.specs.declared.shape.Shape.{Shape}
 use Rattle.cr_check_expressions.specs.declared.known.Declared.{Declared}
 use Rattle.cr_check_expressions.specs.declared.known.Declared.TheVariants.{Object, Function, Unclear}
 use Rattle.cr_check_declarators.specs.declared.words.Specified.{Specified}
 use Rattle.cr_check_declarators.specs.Specifiers.{nothing}
-use Rattle.cr_check_declarations.specs.declared.tree.Tree.{Tree}
 use Rattle.cr_check_initialised.specs.Durations.{is_kept, is_static as is_static_by_words}
-use Rattle.cr_check_unit.specs.declared.typing.Typing.{Typing}
 use Rattle.cr_typed.specs.declared.typed.Typed.{Typed}
 use Rattle.cr_typed.specs.declared.typed.Duration.{Duration}
 use Rattle.cr_typed.specs.declared.typed.Duration.TheVariants as duration
-use Rattle.cr_typed_columns.specs.declared.checked.CheckedColumns.{CheckedColumns}
 use Rattle.cr_typed_columns.specs.Reading.{parsed_of, part_of, entry_of}
 use Rattle.cr_typed_columns.specs.Functions as functions
 use Rattle.cr_typed_columns.specs.Entities as entities
 use Rattle.cr_typed_columns.specs.Names as names
-use Rattle.cr_typed_unit.specs.Typed.{IsTypedBy}
 use Rattle.cr_meaning_operations.specs.Operations.{kind_if, kind_at, parts_if, parts_at, part_at, is_name, name_by, name_of, entity_of, is_automatic_by, is_static_by, is_automatic, is_declaration, declarators_of}
-use Rattle.cr_meaning_declarations.specs.Units.Owned.{AreOfUnit, declared_by, is_declared, declares, owns}
+use Rattle.cr_meaning_declarations.specs.Units.Owned.{declared_by, is_declared, declares, owns}
 use Rattle.cr_meaning_declarations.proofs.UnitsLemmas.Handing.{owning}
 use Rattle.cr_meaning_declarations.proofs.NamesLemmas.Leaves.{is_named, named_once}
 use Rattle.cr_meaning_declarations.proofs.NamesLemmas.Parents.{IsPartOf, part_below, above_is, above_some}
 use Rattle.cr_meaning_declarations.specs.Declared.Files.{IsUnitOfFile}
 use Rattle.cr_meaning_declarations.proofs.DeclaredLemmas.Bodies.{IsThere, listed_at, last_has, name_there, node_of}
 use Rattle.cr_meaning_declarations.proofs.DeclaredLemmas.Once as declared
-use Rattle.cr_meaning_declarations.proofs.DeclaredLemmas.Once.{IsAutomatic, automatic_at, token_is}
+use Rattle.cr_meaning_declarations.proofs.DeclaredLemmas.Once.{IsAutomatic, automatic_at, token_is, place_declaration, place_init}
+use Rattle.cr_meaning_declarations.proofs.DeclaredLemmas.Files.{has_unit}
+use Rattle.cr_meaning_declarations.proofs.LastingLemmas.Begun.{one_of}
 use Rattle.cr_meaning_typing.specs.Judged.Judged.{seen_in, source_of, scene_of, IsJudged}
 use Rattle.cr_meaning_typing.proofs.JudgedLemmas.Judged.{judged}
 use Rattle.cr_meaning_files.specs.Reached.{is_declaring, is_definition, is_list}
 use Rattle.cr_meaning_files.specs.Seen.{is_one_of, sees}
 use Rattle.cr_meaning_files.specs.Local.{declaration_if, declaration_by, declaration_around, is_held_by, is_local, is_parameter_below, is_parameter, is_own_parameter, is_object_by, is_entered, is_early}
-use Rattle.cr_meaning_files.proofs.Grammar.{Stands, part_in}
-use Rattle.cr_meaning_files.proofs.Tree.{has_part}
+use Rattle.cr_meaning_references.proofs.TreesLemmas.Grammar.{Stands, part_in}
+use Rattle.cr_meaning_references.proofs.TreesLemmas.Tree.{has_part}
+use Rattle.cr_meaning_references.proofs.TreesLemmas.Shaped.{shaped}
+use Rattle.cr_meaning_references.proofs.TreesLemmas.Fitting.{initialised_counts as init_counts}
 use Rattle.cr_meaning_files.proofs.Laid.{around_at}
-use Rattle.cr_meaning_files.proofs.Filling.{unit}
 use Rattle.cr_meaning_files.proofs.Sight.{any_filtered, drop_first, specifiers_declare_nothing}
 use Rattle.cr_meaning_files.proofs.Planned.{is_around, is_naming, is_holding, around_holding, naming_is, HasFirst, first_of, named_at, init_named, key_name}
+use Rattle.cr_meaning_files.proofs.Whole.{definition_counts as definition_most, parameter_counts as parameter_most}
+use Rattle.cr_meaning_files.proofs.Functions.{begins_function}
+use Rattle.cr_meaning_files.proofs.Named.{only_definition}
+use Rattle.cr_scopes_visibility.proofs.AloneLemmas.First.{number_same}
+use Rattle.cr_meaning_initialisation.proofs.CalledLemmas.Fitting.{function_holds}
 
 -- ---- durations (6.2.4)
 
@@ -121,21 +119,6 @@ automatic_by d p own static kept h = absurd (false≢true h)
 around_plain : (k : Kind) → is_around k ≡ true → is_declaration k ≡ false
 around_plain kind.Declaration h = absurd (false≢true h)
 around_plain k h = refl
-
-number_same : (o : Option ℕ) (k : ℕ) → is_number o k ≡ true → o ≡ Some k
-number_same None k e = absurd (false≢true e)
-number_same (Some j) k e = ap Some (eqb-true j k e)
-
-some_same : {A : Type 0} (x y : A) → Some x ≡ Some y → x ≡ y
-some_same x y e = cc
-
-last_below : (key : ℕ → Option ℕ) (b k i : ℕ) → last_with key b k ≡ Some i → i < b
-last_below key zero k i e = let never : None ≡ Some i = e in absurd cc
-last_below key (suc b) k i e = by (is_number (key b) k) e (λ x. last_below key b k i x)
-  where
-    by : (c : Bool) → (if c then Some b else last_with key b k) ≡ Some i → (last_with key b k ≡ Some i → i < b) → i < suc b
-    by true e rest = let same = some_same b i e in omega (arith, same)
-    by false e rest = let low = rest e in omega (arith, low)
 
 -- ---- what declares an object
 
@@ -182,57 +165,16 @@ no_block : (k : Kind) → is_declaring k ≡ true → k ≡ kind.Compound → �
 no_block kind.Compound h e = false≢true h
 no_block k h e = false≢true (ap is_declaring (sym e) ∙ h)
 
-definition_most : most (side_of kind.FunctionDefinition) ≡ Some 3
-unfolding rule_of
-definition_most = refl
-
 ordinary_kind : (k : Kind) → names_ordinary (Some k) ≡ true → (k ≡ kind.Declaration) ⊎ ((k ≡ kind.FunctionDefinition) ⊎ (k ≡ kind.Parameter))
 ordinary_kind kind.Declaration h = inl refl
 ordinary_kind kind.FunctionDefinition h = inr (inl refl)
 ordinary_kind kind.Parameter h = inr (inr refl)
 ordinary_kind k h = absurd (false≢true h)
 
-place_init : (k : Kind) (i : ℕ) (a : Around) → k ≡ kind.InitDeclarator → (inside k i a).place ≡ a.place
-unfolding inside
-place_init k i a e = ap (λ x. (inside x i a).place) e
-
-place_declaration : (k : Kind) (i : ℕ) (a : Around) → k ≡ kind.Declaration → (inside k i a).place ≡ a.place
-unfolding inside
-place_declaration k i a e = ap (λ x. (inside x i a).place) e
-
-in_place : (own : Declarator) (at : Place) (typedef : Bool) (result : Qualified) → function_fault_of own at typedef result ≡ false → own.misplaced ≡ false
-in_place own at typedef result e = by (is_some own.function) e
-  where
-    by : (b : Bool) → (if b then own.misplaced || (not (is_declared_there at typedef own.empty) || not (may_return result)) else own.misplaced) ≡ false → own.misplaced ≡ false
-    by true f = (or_parts own.misplaced (not (is_declared_there at typedef own.empty) || not (may_return result)) f).0
-    by false f = f
-
-never : (b : Bool) → not b ≡ true → b ≡ true → ⊥
-never true h e = false≢true h
-never false h e = false≢true e
-
-parameter_most : most (side_of kind.Parameter) ≡ Some 2
-unfolding rule_of
-parameter_most = refl
-
-place_parameter : (k : Kind) (i : ℕ) (a : Around) → k ≡ kind.Parameter → (inside k i a).place ≡ place.Parameter
-unfolding inside
-place_parameter k i a e = ap (λ x. (inside x i a).place) e
-
--- a definition begins a function, and no other node does
-begins_function : (k : Kind) (i : ℕ) (a : Around) → is_definition k ≡ true → (inside k i a).function ≡ Some i
-unfolding inside
-begins_function kind.FunctionDefinition i a h = refl
-begins_function k i a h = absurd (false≢true h)
-
 keeps_function : (k : Kind) (i : ℕ) (a : Around) → is_definition k ≡ false → (inside k i a).function ≡ a.function
 unfolding inside
 keeps_function kind.FunctionDefinition i a h = absurd (false≢true (sym h))
 keeps_function k i a h = refl
-
-only_definition : (k : Kind) → is_definition k ≡ true → k ≡ kind.FunctionDefinition
-only_definition kind.FunctionDefinition h = refl
-only_definition k h = absurd (false≢true h)
 
 list_plain : (k : Kind) → names.is_list (Some k) ≡ true → is_declarator k ≡ false
 list_plain kind.Parameters h = refl
@@ -257,30 +199,15 @@ any_right test (x ∷ xs) ys h = or_right (test x) (list_any test (xs ++ ys)) (a
 
 any_in : (g : ℕ → List ℕ) (e : ℕ) (xs : List ℕ) (k p : ℕ) → slice_get xs k ≡ Some p → is_one_of (g p) e ≡ true → is_one_of (flat_map g xs) e ≡ true
 any_in g e [] k p at h = let other : None ≡ Some p = at in absurd cc
-any_in g e (x ∷ xs) zero p at h = any_left (λ own. own == e) (g x) (flat_map g xs) (ap (λ y. is_one_of (g y) e) (some_same x p at) ∙ h)
+any_in g e (x ∷ xs) zero p at h = any_left (λ own. own == e) (g x) (flat_map g xs) (ap (λ y. is_one_of (g y) e) (same_Some x p at) ∙ h)
 any_in g e (x ∷ xs) (suc k) p at h = any_right (λ own. own == e) (g x) (flat_map g xs) (any_in g e xs k p at h)
 
 module _ (file : List ℕ) (t : Typed) (it : IsUnitOfFile file t) where
-  abbrev u : AreOfUnit t
-  u = unit file t it
-
-  abbrev made_by : IsTypedBy file it.unit it.names it.checked.checked t
-  made_by = it.checked.by
-
-  abbrev typing : Typing
-  typing = it.checked.checked.whole.typing
-
-  abbrev shapes : List Shape
-  shapes = it.checked.checked.table
+  open it use {made_by, typing, shapes, tree, columns}
+  open has_unit file t it use {unit as u, nodes_are as same_nodes, tree_nodes, order}
 
   abbrev is : IsJudged t (seen_in it.checked.checked) (source_of made_by.tree it.checked.checked) (scene_of made_by.tree it.checked.checked) it.checked.checked.surroundings.above it.checked.checked.surroundings.around
   is = judged file it.unit it.names it.checked.checked t made_by
-
-  abbrev tree : Tree
-  tree = made_by.tree
-
-  abbrev columns : CheckedColumns
-  columns = made_by.columns
 
   abbrev said : ℕ → Specified
   said p = slice_index_or typing.specified p nothing
@@ -290,17 +217,6 @@ module _ (file : List ℕ) (t : Typed) (it : IsUnitOfFile file t) where
 
   abbrev around : ℕ → Around
   around i = slice_index_or it.checked.checked.surroundings.around i outermost
-
-  same_nodes : it.unit.nodes ≡ t.nodes
-  same_nodes = sym made_by.elaborated.nodes_are
-
-  tree_nodes : tree.nodes.now ≡ t.nodes
-  tree_nodes = made_by.is.whole.tree.nodes ∙ same_nodes
-
-  order : AreListed t.nodes 0 t.items (length t.nodes)
-  order =
-      subst (λ is. AreListed t.nodes 0 is (length t.nodes)) (sym made_by.elaborated.items_are)
-      (subst (λ ns. AreListed ns 0 it.unit.items (length ns)) same_nodes it.listed)
 
   -- ---- parts, and the function around a node
 
@@ -328,7 +244,7 @@ module _ (file : List ℕ) (t : Typed) (it : IsUnitOfFile file t) where
           own = ap (λ (a : Around). a.function) (around_at file t it y h.place x (has_part t u y h.place x (ap (λ o. slice_get (parts_if o) h.place) h.at ∙ h.is)))
 
           at : (b : Bool) → is_definition (kind_at t y) ≡ b → is_definition (kind_at t f) ≡ true
-          at true g = ap (λ z. is_definition (kind_at t z)) (sym (some_same y f (sym (begins_function (kind_at t y) y (around y) g) ∙ sym own ∙ e))) ∙ g
+          at true g = ap (λ z. is_definition (kind_at t z)) (sym (same_Some y f (sym (begins_function (kind_at t y) y (around y) g) ∙ sym own ∙ e))) ∙ g
           at false g = rest y (part_below t u x y h) (slice_get_within t.nodes y h.parent h.at) (sym (keeps_function (kind_at t y) y (around y) g) ∙ sym own ∙ e)
 
   below_there : (m f e : ℕ) → f < m → is_one_of (slice_index_or t.parameters f []) e ≡ true → is_parameter_below m t e ≡ true
@@ -561,7 +477,7 @@ module _ (file : List ℕ) (t : Typed) (it : IsUnitOfFile file t) where
                 same = ap whole_declaration q ∙ ap (λ b. if b then declaration_at ns (above_in tree.above.now (Some x)) else declaration_at ns (Some x)) f
 
                 kind_is : kind_at t x ≡ kind.InitDeclarator
-                kind_is = some_same (kind_at t x) kind.InitDeclarator (sym (kind_there x h.parent h.at) ∙ only_initialised (kind_in ns (Some x)) f)
+                kind_is = same_Some (kind_at t x) kind.InitDeclarator (sym (kind_there x h.parent h.at) ∙ only_initialised (kind_in ns (Some x)) f)
 
                 over : (o : Option ℕ) → slice_index_or tree.above.now x None ≡ o → HasDeclaration
                 over None g = nothing_above (same ∙ ap (declaration_at ns) g)
@@ -600,7 +516,7 @@ module _ (file : List ℕ) (t : Typed) (it : IsUnitOfFile file t) where
     whole_name : name_of t w.whole ≡ e
     whole_name =
         let x = named_at file t it (length t.nodes) w.whole w.node low w.at naming in
-        same_name (name_of t w.whole) x.node x.at x.is (some_same x.node.first own.node.first (sym x.name ∙ w.named))
+        same_name (name_of t w.whole) x.node x.at x.is (same_Some x.node.first own.node.first (sym x.name ∙ w.named))
 
     second_initial : (p : ℕ) → kind_at t p ≡ kind.InitDeclarator → slice_get (parts_at t p) 1 ≡ Some w.whole → (is_expression (form_of (kind_at t w.whole)) || is_list (kind_at t w.whole)) ≡ true
     unfolding rule_of
@@ -614,10 +530,10 @@ module _ (file : List ℕ) (t : Typed) (it : IsUnitOfFile file t) where
         let f = first_of file t it p (ap is_holding q) in
         let x = init_named file t it (length t.nodes) p (slice_get_within t.nodes p h.parent h.at) q f in
         let same : f.inner ≡ w.whole = first f h.place (ap (λ o. slice_get (parts_if o) h.place) h.at ∙ h.is) in
-        same_name (name_of t p) x.0 x.1.0 x.1.1.0 (some_same x.0.first own.node.first (sym x.1.1.1 ∙ ap (λ y. (declarator_of t.nodes y).name) same ∙ w.named))
+        same_name (name_of t p) x.0 x.1.0 x.1.1.0 (same_Some x.0.first own.node.first (sym x.1.1.1 ∙ ap (λ y. (declarator_of t.nodes y).name) same ∙ w.named))
       where
         first : (f : HasFirst file t it p) → (k : ℕ) → slice_get (parts_at t p) k ≡ Some w.whole → f.inner ≡ w.whole
-        first f zero g = some_same f.inner w.whole (sym f.is ∙ g)
+        first f zero g = same_Some f.inner w.whole (sym f.is ∙ g)
         first f (suc zero) g =
             absurd (never (is_expression (form_of (kind_at t w.whole)) || is_list (kind_at t w.whole))
             (row _ _ (declarator_plain (kind_at t w.whole)) (ap is_declarator (ap kind_if w.at) ∙ (naming_declares w.node.kind naming).1)) (second_initial p q g))
@@ -648,7 +564,7 @@ module _ (file : List ℕ) (t : Typed) (it : IsUnitOfFile file t) where
 
         function_there : (holder : ℕ) → holder ≡ w.whole → slice_get d.part.parent.parts 1 ≡ Some holder → ⊥
         function_there holder same g =
-            let f = definitions file t it (shaped file t it) own.node.first d.declaration w.whole d.part.parent (record {
+            let f = definitions file t it own.node.first d.declaration w.whole d.part.parent (record {
               at = d.part.at;
               external = ap is_external defines;
               place = 0;
@@ -804,7 +720,7 @@ module _ (file : List ℕ) (t : Typed) (it : IsUnitOfFile file t) where
               ap (λ ns. entities.named_token ns last.last) same_nodes
               ∙ ap (λ o. if entities.is_name (scripts.kind_if o) then scripts.first_if o else None) n.1.0
               ∙ ap (λ k. if entities.is_name (Some k) then Some n.0.first else None) n.1.1 in
-              last.is ∙ ap Some (same_name last.last n.0 n.1.0 n.1.1 (some_same n.0.first own.node.first (sym token ∙ last.has)))
+              last.is ∙ ap Some (same_name last.last n.0 n.1.0 n.1.1 (same_Some n.0.first own.node.first (sym token ∙ last.has)))
 
       above_column_of : (x : ℕ) → x < length t.nodes → slice_index_or columns.above.now x None ≡ above x
       above_column_of x few = ap (λ xs. slice_index_or xs x None) made_by.are.above ∙ is.above_are.each x few

@@ -24,9 +24,7 @@ use Rattle.cr_check_expressions.specs.Forms.{form_of}
 use Rattle.cr_check_expressions.specs.Ruled.{given, literal, is_type, complete, operand, sized, ruled}
 use Rattle.cr_check_constant_values.specs.Ranges.Laws.{IsInRange}
 use Rattle.cr_check_constant_values.proofs.RangesLemmas.Ranges.{integers, characters, sizes}
-use Rattle.cr_check.specs.declared.checked.Checked.{Checked}
 use Rattle.cr_typed.specs.declared.typed.Typed.{Typed}
-use Rattle.cr_typed_unit.specs.Typed.{IsTypedBy}
 use Rattle.cr_meaning.specs.World.{Program}
 use Rattle.cr_meaning.specs.declared.op.Parameter.{Parameter}
 use Rattle.cr_meaning.specs.declared.op.Callee.TheVariants.{Function}
@@ -41,7 +39,7 @@ use Rattle.cr_meaning_typing.proofs.TypedLemmas.Units.{all_worth}
 use Rattle.cr_meaning_typing.proofs.TypedLemmas.Worth.{worth_typed}
 use Rattle.cr_meaning_typing.specs.Judged.Judged.{seen_in, source_of, scene_of, IsJudged}
 use Rattle.cr_meaning_typing.proofs.JudgedLemmas.Judged.{judged}
-use Rattle.cr_meaning_declarations.specs.Declared.Files.{IsUnitOfFile, assembled}
+use Rattle.cr_meaning_declarations.specs.Declared.Files.{IsUnitOfFile}
 use Rattle.cr_meaning_typing.specs.Calls.Calls.{IsParameter}
 use Rattle.cr_meaning_typing.specs.Expressions.Places.{HasCells, IsMemberIn}
 use Rattle.cr_meaning_typing.specs.Sorts.Table.{Judgement, sort_at, sorts_in}
@@ -51,6 +49,8 @@ use Rattle.cr_meaning_typing.specs.Whole.Whole.{IsReady}
 use Rattle.cr_meaning_typing.proofs.WholeLemmas.Around.{rise}
 use Rattle.cr_meaning_typing.proofs.WholeLemmas.Statements.{nodes}
 use Rattle.cr_meaning_declarations.proofs.DeclaredLemmas.Runs.{files_run_alike}
+use Rattle.cr_meaning_declarations.proofs.DeclaredLemmas.Files.{has_unit}
+use Rattle.cr_meaning_declarations.proofs.DeclaredLemmas.Nodes.{of_unit}
 use Rattle.cr_meaning_typing.proofs.WholeLemmas.Whole.{outcomes, typed}
 use Rattle.cr_meaning_files.specs.Reached.{is_item, is_definition, is_reached}
 use Rattle.cr_meaning_files.specs.Seen.{sees}
@@ -58,7 +58,6 @@ use Rattle.cr_meaning_files.specs.Local.{is_object_by}
 use Rattle.cr_typed.specs.declared.typed.Duration.TheVariants as duration
 use Rattle.cr_meaning_files.specs.Files.{judgement_of, AreRead, AreVisible, FilesHaveOutcomes, FilesAreWellTyped, FixedFilesRunAlike}
 use Rattle.cr_meaning_files.specs.Laws.{IsTold, AreTold, AreClosed, AreWorth, EnumeratorsAreNumbers, MainsAreDefined, LabelsStandAround, DeclaratorsSeeObjects, EarlyNamesLast, ObjectsHaveWholeCells, NodesNameWholeCells, PlacesNameObjects}
-use Rattle.cr_meaning_files.proofs.Filling.{unit}
 use Rattle.cr_meaning_files.proofs.Laid.{read_operand, laid_out}
 use Rattle.cr_meaning_files.proofs.Living.{reached_lives}
 use Rattle.cr_meaning_files.proofs.Reaching.{reached}
@@ -75,11 +74,9 @@ use Rattle.cr_meaning_files.proofs.Defined.{define}
 use Rattle.cr_meaning_initialisation.proofs.CalledLemmas.Fitting.{fitting}
 use Rattle.cr_meaning_initialisation.proofs.CalledLemmas.Objects.{objects as parameters_taken}
 use Rattle.cr_meaning_initialisation.proofs.ClosedLemmas.Closed.{calls_closed}
-use Rattle.cr_meaning_types.specs.Known.Sighted.{AreSighted}
 use Rattle.cr_meaning_composites.proofs.ObjectsLemmas.Statics.{static_first}
 use Rattle.cr_meaning_files.proofs.Declared.{types_known, read, members_whole}
 use Rattle.cr_meaning_files.proofs.Returns.{result}
-use Rattle.cr_meaning_files.proofs.Shaped.{shaped}
 use Rattle.cr_meaning_files.proofs.Members.{chosen_type, member_chosen, pointed_chosen}
 use Rattle.cr_meaning_files.proofs.Made.{complete_whole, whole_object, member_in}
 use Rattle.cr_meaning_files.proofs.Apart.{among}
@@ -97,9 +94,9 @@ use Rattle.cr_meaning_files.proofs.Designated.{places}
 use Rattle.cr_meaning_files.proofs.Initialised.{initialises}
 use Rattle.cr_meaning_files.proofs.Started.{definition_item, main_has, gives}
 use Rattle.cr_meaning_files.proofs.Callees.{body_of, called, defines_function}
-use Rattle.cr_meaning_files.proofs.Assembled.{tree_sighted}
 use Rattle.cr_meaning_files.proofs.Passed.{passed_types}
 use Rattle.cr_meaning_files.proofs.Labels.{gotos}
+use Rattle.cr_meaning_files.proofs.Named.{only_definition}
 
 -- a constant that is spelled has the operand of its spelling
 spelled : (o : Option Operand) (x : Operand) (own : Seen) → own ≡ given (literal o) → own ≡ given (a_number x) → ((y : Operand) → o ≡ Some y → IsInRange y) → IsInRange x
@@ -139,10 +136,6 @@ followed_expression kind.Dereference h = refl
 followed_expression kind.Subscript h = refl
 followed_expression k h = absurd (false≢true h)
 
-only_definition : (k : Kind) → is_definition k ≡ true → k ≡ kind.FunctionDefinition
-only_definition kind.FunctionDefinition h = refl
-only_definition k h = absurd (false≢true h)
-
 definition_there : (t : Typed) (d : ℕ) → is_definition (kind_at t d) ≡ true → (n : Node) × ((slice_get t.nodes d ≡ Some n) × (n.kind ≡ kind.FunctionDefinition))
 definition_there t d h = by (slice_get t.nodes d) refl
   where
@@ -151,17 +144,11 @@ definition_there t d h = by (slice_get t.nodes d) refl
     by (Some n) at = (n, (at, only_definition n.kind (ap (λ o. is_definition (kind_if o)) (sym at) ∙ h)))
 
 module _ (file : List ℕ) (t : Typed) (it : IsUnitOfFile file t) where
-  abbrev checked : Checked
-  checked = it.checked.checked
-
-  abbrev made_by : IsTypedBy file it.unit it.names checked t
-  made_by = it.checked.by
+  open it use {checked.{checked}, made_by}
+  open has_unit file t it use {tree_nodes as nodes_are}
 
   abbrev is : IsJudged t (seen_in checked) (source_of made_by.tree checked) (scene_of made_by.tree checked) checked.surroundings.above checked.surroundings.around
   is = judged file it.unit it.names checked t made_by
-
-  nodes_are : made_by.tree.nodes.now ≡ t.nodes
-  nodes_are = made_by.is.whole.tree.nodes ∙ sym made_by.elaborated.nodes_are
 
   -- ---- values
 
@@ -184,7 +171,7 @@ module _ (file : List ℕ) (t : Typed) (it : IsUnitOfFile file t) where
   told = record { expressions = λ reads. laid_out file t it (worth reads); statements = statements file t it }
 
   closed : AreReached t (judgement_of file t it)
-  closed = reached t (unit file t it) (judgement_of file t it) (λ a. refl)
+  closed = reached t (of_unit file t it) (judgement_of file t it) (λ a. refl)
 
   blocks : BlocksRise t (judgement_of file t it)
   blocks b c e = rise t.nodes checked.surroundings.above checked.surroundings.around is.around_are b c e
@@ -196,22 +183,18 @@ module _ (file : List ℕ) (t : Typed) (it : IsUnitOfFile file t) where
       enumerator_is (type_at checked.table) _ _ v
       (numbered_by made_by.tree checked.texts checked.table checked.whole.typing made_by.is.whole.typing i (slice_index_or made_by.tree.visible.now node None)) e
 
-  -- what names and tags find is declared
-  sighted : AreSighted made_by.tree
-  sighted = tree_sighted file t (assembled file t it)
-
   -- what is named as a place is an object of the program, of a declaration or of a parameter
   visible : (limits : Limits) → AreVisible (program_of t limits) t (judgement_of file t it)
-  visible limits i n r at identifier l = by (places file t it (shaped file t it) sighted i n at identifier l (told_once file t it i n at (ap is_using identifier) r))
+  visible limits i n r at identifier l = by (places file t it i n at identifier l (told_once file t it i n at (ap is_using identifier) r))
     where
       by : SeesDeclared file t it i n.first ⊎ SeesParameter file t it n.first → IsNamed (program_of t limits) t i × (is_object_by (slice_index_or t.durations (entity_of t i) duration.NoObject) ≡ true)
       by (inl s) = (
-        mentioned_named file t it sighted i n at identifier (told_once file t it i n at (ap is_using identifier) r) l s (members_whole file t it sighted) (worth (read file t it sighted)) limits,
-        mentioned_object file t it sighted i n at identifier (told_once file t it i n at (ap is_using identifier) r) l s,
+        mentioned_named file t it i n at identifier (told_once file t it i n at (ap is_using identifier) r) l s (members_whole file t it) (worth (read file t it)) limits,
+        mentioned_object file t it i n at identifier (told_once file t it i n at (ap is_using identifier) r) l s,
       )
       by (inr s) = (
-        received_named file t it i n at identifier r l s (members_whole file t it sighted) limits
-            (ap has_value (is.columns.types i) ∙ worth (read file t it sighted) i (ap (λ k. is_expression (form_of k)) (ap kind_if at ∙ identifier))),
+        received_named file t it i n at identifier r l s (members_whole file t it) limits
+            (ap has_value (is.columns.types i) ∙ worth (read file t it) i (ap (λ k. is_expression (form_of k)) (ap kind_if at ∙ identifier))),
         received_object file t it i n at identifier r l s,
       )
 
@@ -257,61 +240,61 @@ module _ (file : List ℕ) (t : Typed) (it : IsUnitOfFile file t) where
     meant i r e signature stands parameters rest is_main same =
         let n = closed.there i r in
         let is = sym (ap kind_if n.1) ∙ e in
-        define file t it (shaped file t it) sighted i n.0 n.1 is (told_once file t it i n.0 n.1 (ap is_using is) r) signature stands parameters rest is_main same
+        define file t it i n.0 n.1 is (told_once file t it i n.0 n.1 (ap is_using is) r) signature stands parameters rest is_main same
 
     calls : AreCalls (program_of t limits) t (judgement_of file t it)
     calls i r e =
         let n = closed.there i r in
-        let named = call_names file t it (read file t it sighted) i n.0 n.1 (sym (ap kind_if n.1) ∙ e) in
+        let named = call_names file t it (read file t it) i n.0 n.1 (sym (ap kind_if n.1) ∙ e) in
         let rule = is.ruled i n.0 n.1 in
         let returned = function_gives made_by.tree checked.texts checked.table checked.whole.typing made_by.is.whole.typing (λ b broken. made_by.sound.constraints b (inl broken)) i (slice_index_or made_by.tree.visible.now i None) _ named.0 named.1.0 in
         let is = sym (ap kind_if n.1) ∙ e in
-        let clear = call_clear file t it (read file t it sighted) i n.0 n.1 is named.0 named.1.0 in
+        let clear = call_clear file t it (read file t it) i n.0 n.1 is named.0 named.1.0 in
         let library = library_called file t it i n.0 n.1 is (program_of t limits) (sorts_in (program_of t limits) t (judgement_of file t it)) named.0 named.1.0 clear in
         let given = returned_given named.0.gives returned named.1.1 in
         let definition = function_in (named_type t (entity_of t i)) in
-        let typed = worth_typed (seen_in checked i).type (worth (read file t it sighted) i (ap (λ k. is_expression (form_of k)) e)) in
+        let typed = worth_typed (seen_in checked i).type (worth (read file t it) i (ap (λ k. is_expression (form_of k)) e)) in
         let worths : (k a : ℕ) → slice_get n.0.parts k ≡ Some a → has_value (seen_in checked a).type ≡ true = λ k a f.
-        worth (read file t it sighted) a ((told.expressions (read file t it sighted)).arguments i k a e (ap (λ o. slice_get (parts_if o) k) n.1 ∙ f)).expression in
+        worth (read file t it) a ((told.expressions (read file t it)).arguments i k a e (ap (λ o. slice_get (parts_if o) k) n.1 ∙ f)).expression in
         let takes_no_more : IsMeant file t it i definition → named.0.more ≡ false = λ h.
         let own = definition_item file t it definition h.own h.defines.at h.body in
-        calls_closed file t it (shaped file t it) sighted i definition own.0 named.0 named.1.0 h own.1 in
+        calls_closed file t it i definition own.0 named.0 named.1.0 h own.1 in
         let taken : IsMeant file t it i definition → (k : ℕ) (own : Parameter) → slice_get (map (parameter_of t) (slice_index_or t.parameters definition [])) k ≡ Some own
         → IsParameter (program_of t limits) t named.0 k own = λ h k own f.
-        parameters_taken file t it (shaped file t it) sighted limits i definition named.0 named.1.0 h
+        parameters_taken file t it limits i definition named.0 named.1.0 h
         (passed_types named.0 (seen_in checked) (source_of made_by.tree checked i) i n.0 (rule ∙ ap (λ c. ruled (form_of c) (seen_in checked) (source_of made_by.tree checked i) i n.0) is) named.1.0 typed (takes_no_more h) worths clear.1)
         k own f in
         record {
           signature = named.0;
           stands = named.1.0;
           gives = given;
-          called = called file t it i (program_of t limits) named.0 (gives file t it sighted limits) library
-              (λ h. fitting file t it (shaped file t it) sighted (program_of t limits) i definition named.0 named.1.0 given h) takes_no_more taken (meant i r e named.0 named.1.0) (callee_of t i) refl;
+          called = called file t it i (program_of t limits) named.0 (gives file t it limits) library
+              (λ h. fitting file t it (program_of t limits) i definition named.0 named.1.0 given h) takes_no_more taken (meant i r e named.0 named.1.0) (callee_of t i) refl;
         }
 
     members : (i a : ℕ) → is_reached t i ≡ true → kind_at t i ≡ kind.Member → slice_get (parts_at t i) 0 ≡ Some a → IsFound t limits (judgement_of file t it) i a
     members i a r e first =
         let n = closed.there i r in
-        let own = member_chosen file t it i a n.0 n.1 (sym (ap kind_if n.1) ∙ e) (ap (λ o. slice_get (parts_if o) 0) (sym n.1) ∙ first) (worth (read file t it sighted) i (ap (λ k. is_expression (form_of k)) e)) in
+        let own = member_chosen file t it i a n.0 n.1 (sym (ap kind_if n.1) ∙ e) (ap (λ o. slice_get (parts_if o) 0) (sym n.1) ∙ first) (worth (read file t it) i (ap (λ k. is_expression (form_of k)) e)) in
         let named : type_of_node t i ≡ with_qualifiers_of (type_of_node t a) own.0 = is.columns.types i ∙ ap (λ (s : Seen). s.type) own.1.1 ∙ ap (λ whole. with_qualifiers_of whole own.0) (sym (is.columns.types a)) in
         record {
           is = own.1.1 ∙ ap (λ type. member_of (Some type) (seen_in checked a)) (sym (chosen_type it.unit.nodes t i (type_of_node t a) own.0 own.1.0));
-          within = member_in file t it (members_whole file t it sighted) i (type_of_node t a) own.0 own.1.0 named;
-          structure = λ value. among file t it (members_whole file t it sighted) limits i (slice_index_or t.types a 0) own.0 own.1.0;
+          within = member_in file t it (members_whole file t it) i (type_of_node t a) own.0 own.1.0 named;
+          structure = λ value. among file t it (members_whole file t it) limits i (slice_index_or t.types a 0) own.0 own.1.0;
         }
 
     pointed_members : (i : ℕ) → is_reached t i ≡ true → kind_at t i ≡ kind.PointerMember → IsMemberIn t i (pointed (left_type t i))
     pointed_members i r e =
         let n = closed.there i r in
-        let part = (told.expressions (read file t it sighted)).operands i 0 (ap (λ k. is_asked (form_of k) 0) e) in
-        let own = pointed_chosen file t it i part.0 n.0 n.1 (sym (ap kind_if n.1) ∙ e) (ap (λ o. slice_get (parts_if o) 0) (sym n.1) ∙ part.1.is) (worth (read file t it sighted) i (ap (λ k. is_expression (form_of k)) e)) in
-        member_in file t it (members_whole file t it sighted) i (pointed (left_type t i)) own.0 own.1.0 (is.columns.types i ∙ own.1.1)
+        let part = (told.expressions (read file t it)).operands i 0 (ap (λ k. is_asked (form_of k) 0) e) in
+        let own = pointed_chosen file t it i part.0 n.0 n.1 (sym (ap kind_if n.1) ∙ e) (ap (λ o. slice_get (parts_if o) 0) (sym n.1) ∙ part.1.is) (worth (read file t it) i (ap (λ k. is_expression (form_of k)) e)) in
+        member_in file t it (members_whole file t it) i (pointed (left_type t i)) own.0 own.1.0 (is.columns.types i ∙ own.1.1)
 
     returns : (i : ℕ) → is_reached t i ≡ true → kind_at t i ≡ kind.Return → IsIn (judgement_of file t it) i
     returns i r e =
-        let function = function_there file t it i (reached_lives t (unit file t it) i r) (ap is_item e) in
+        let function = function_there file t it i (reached_lives t (of_unit file t it) i r) (ap is_item e) in
         let n = definition_there t function.0 function.1.1 in
-        record { definition = function.0; is = function.1.0; result = result file t it (types_known file t it sighted) function.0 n.0 n.1.0 n.1.1 }
+        record { definition = function.0; is = function.1.0; result = result file t it (types_known file t it) function.0 n.0 n.1.0 n.1.1 }
 
     -- what a pointer to an object of a complete type is followed to
     cells : (i : ℕ) → is_reached t i ≡ true → is_followed (kind_at t i) ≡ true → HasCells t i
@@ -320,24 +303,24 @@ module _ (file : List ℕ) (t : Typed) (it : IsUnitOfFile file t) where
         let source = source_of made_by.tree checked i in
         let expression = followed_expression (kind_at t i) h in
         let rule = is.ruled i n.0 n.1 ∙ ap (λ k. ruled (form_of k) (seen_in checked) source i n.0) (sym (ap kind_if n.1)) in
-        let whole = followed_type (kind_at t i) (seen_in checked) source i n.0 h rule (worth (read file t it sighted) i expression) in
+        let whole = followed_type (kind_at t i) (seen_in checked) source i n.0 h rule (worth (read file t it) i expression) in
         let complete : is_complete_at t.nodes i (type_of_node t i) ≡ true = (λ k. is_complete_at (sym nodes_are k) i (is.columns.types i k)) ∙ whole in
-        whole_object file t it (members_whole file t it sighted) (type_of_node t i) (complete_whole t i (type_of_node t i) complete) (made_by.fits.cells_fit (slice_index_or t.types i 0))
+        whole_object file t it (members_whole file t it) (type_of_node t i) (complete_whole t i (type_of_node t i) complete) (made_by.fits.cells_fit (slice_index_or t.types i 0))
 
     objects : (i : ℕ) (n : Node) → is_reached t i ≡ true → slice_get t.nodes i ≡ Some n → n.kind ≡ kind.Identifier → (seen_in checked i).lvalue ≡ true → IsNamed p t i × (sees t i (entity_of t i) ≡ true)
-    objects i n r at is l = let own = visible limits i n r at is l in (own.0, named_seen file t it i (ap kind_if at ∙ is) (automatic_late file t it sighted (worth (read file t it sighted)) i n at is r l) own.1)
+    objects i n r at is l = let own = visible limits i n r at is l in (own.0, named_seen file t it i (ap kind_if at ∙ is) (automatic_late file t it (worth (read file t it)) i n at is r l) own.1)
 
     -- the lines of an initialised declarator
     completes : (i : ℕ) → is_reached t i ≡ true → kind_at t i ≡ kind.InitDeclarator → sees t i (entity_of t (name_of t i)) ≡ true → IsInitialised p t j (sees t) i
     completes i r e seen =
         let n = closed.there i r in
-        initialises file t it sighted (members_whole file t it sighted) (worth (read file t it sighted)) limits i n.0 n.1 seen
+        initialises file t it (members_whole file t it) (worth (read file t it)) limits i n.0 n.1 seen
 
     founded : IsFounded t limits j (scene_of made_by.tree checked) (sees t)
     founded = record {
       expressions = record {
-        judged = record { columns = is.columns; ruled = is.ruled; worth = worth (read file t it sighted); casts = is.casts; texts = is.texts };
-        laid = told.expressions (read file t it sighted);
+        judged = record { columns = is.columns; ruled = is.ruled; worth = worth (read file t it); casts = is.casts; texts = is.texts };
+        laid = told.expressions (read file t it);
         reached = closed;
         named = record { objects = objects; literals = λ i r is. (text_there file t it i is, literals file t it i is) };
         placed = record { cells = cells; members = members; pointed_members = pointed_members };
@@ -359,7 +342,7 @@ module _ (file : List ℕ) (t : Typed) (it : IsUnitOfFile file t) where
         gotos = λ i r e. let n = closed.there i r in gotos file t it i n.0 n.1 e;
         declarators = declarators file t it;
         names = names_here t;
-        initialised = λ i r e. completes i r e (initialised file t it i r e (initialised_lasts file t it i e (λ h. static_first file t it (shaped file t it) sighted (name_of t i) (sym (ap (is_static_initialiser t i) e) ∙ h))));
+        initialised = λ i r e. completes i r e (initialised file t it i r e (initialised_lasts file t it i e (λ h. static_first file t it (name_of t i) (sym (ap (is_static_initialiser t i) e) ∙ h))));
       };
     }
 
@@ -375,10 +358,10 @@ module _ (file : List ℕ) (t : Typed) (it : IsUnitOfFile file t) where
     parts_run : (i : ℕ) → is_reached t i ≡ true → AllReached file t it (op_of t i)
     parts_run i r k part e = let has = (nodes t limits j (scene_of made_by.tree checked) (sees t) founded few i r).typed.parts k part e in runs_if part has.0 has.1
 
-    goes_on : (i : ℕ) → is_reached t i ≡ true → kind_at t i ≡ kind.Call → (parameters : List Parameter) (rest : ℕ) (is_main : Bool) → callee_of t i ≡ Function parameters rest is_main → IsBodyOf t (unit file t it) parameters rest
+    goes_on : (i : ℕ) → is_reached t i ≡ true → kind_at t i ≡ kind.Call → (parameters : List Parameter) (rest : ℕ) (is_main : Bool) → callee_of t i ≡ Function parameters rest is_main → IsBodyOf t (of_unit file t it) parameters rest
     goes_on i r e parameters rest is_main same =
         let n = closed.there i r in
-        let named = call_names file t it (read file t it sighted) i n.0 n.1 (sym (ap kind_if n.1) ∙ e) in
+        let named = call_names file t it (read file t it) i n.0 n.1 (sym (ap kind_if n.1) ∙ e) in
         body_of file t it i parameters rest is_main same (defines_function file t it i (meant i r e named.0 named.1.0 parameters rest is_main same))
 
     scoped : (i : ℕ) → is_reached t i ≡ true → IsScoped file t it i (op_of t i)
@@ -388,10 +371,10 @@ module _ (file : List ℕ) (t : Typed) (it : IsUnitOfFile file t) where
     ready = record {
       founded = founded;
       started = record {
-        parameters = (main_has file t it sighted limits).parameters;
+        parameters = (main_has file t it limits).parameters;
         body_runs = body_runs file t it;
         body_plain = ap (λ k. is_expression (form_of k)) (body_kind file t it);
-        body_exits = body_exits file t it (gives file t it sighted limits);
+        body_exits = body_exits file t it (gives file t it limits);
         initialisers_run = initialisers_run file t it;
       };
       seen = seen file t it limits scoped;
@@ -419,7 +402,7 @@ pub see : DeclaratorsSeeObjects
 see file t it i r h = declarators file t it i r h
 
 pub before_main : EarlyNamesLast
-before_main file t it i n at is r lvalue early = let s = sighted file t it in early_lasts file t it s (worth file t it (read file t it s)) i n at is r lvalue early
+before_main file t it i n at is r lvalue early = early_lasts file t it (worth file t it (read file t it)) i n at is r lvalue early
 
 pub files : FilesHaveOutcomes
 files file t it limits cells few reply run =
@@ -434,11 +417,11 @@ alike file t limits it cells few fixed one other comes any =
 
 pub objects_cells : ObjectsHaveWholeCells
 objects_cells file t it limits node q x there_is =
-    let s = sighted file t it in has_cells file t it s (members_whole file t it s) (worth file t it (read file t it s)) limits node q x there_is
+    has_cells file t it (members_whole file t it) (worth file t it (read file t it)) limits node q x there_is
 
 pub nodes_cells : NodesNameWholeCells
 nodes_cells file t it limits node q p i x declared type entity there_is =
-    let s = sighted file t it in names_cells file t it s (members_whole file t it s) (worth file t it (read file t it s)) limits node q p i x declared type entity there_is
+    names_cells file t it (members_whole file t it) (worth file t it (read file t it)) limits node q p i x declared type entity there_is
 
 pub place_names : PlacesNameObjects
 place_names file t it limits i n r at is l = visible file t it limits i n r at is l

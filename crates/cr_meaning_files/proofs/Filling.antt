@@ -23,40 +23,25 @@ use Rattle.cr_check_initialisers.specs.Faults.{is_badly_typed, is_bad_literal, i
 use Rattle.cr_check_initialised.specs.Initialised.{Planned, planned_by, IsFilled}
 use Rattle.cr_check_initialised.specs.Faults.{faults_in, equals_before}
 use Rattle.cr_check_initialised.specs.Durations.{is_static}
-use Rattle.cr_check_unit.specs.declared.typing.Typing.{Typing}
 use Rattle.cr_check_unit.specs.Typing.{cut, entry_at, known_in, before_in, object_in, IsRuled, IsRuledIf}
 use Rattle.cr_check_unit.specs.Breaks.{IsNodeBreak}
 use Rattle.cr_typed.specs.declared.typed.Typed.{Typed}
 use Rattle.cr_typed.specs.declared.typed.Put.{Put}
 use Rattle.cr_typed_columns.specs.Rows.{put_entry}
 use Rattle.cr_typed_columns.specs.Expressions.{fills_array, is_array, is_filling}
-use Rattle.cr_typed_unit.specs.Typed.{IsTypedBy}
 use Rattle.cr_meaning_operations.specs.Operations.{kind_if, kind_at, parts_if, parts_at}
 use Rattle.cr_meaning_typing.specs.Typed.Laws.{HoldsAll}
 use Rattle.cr_meaning_typing.specs.Typed.Typing.{has_value}
 use Rattle.cr_meaning_typing.proofs.TypedLemmas.Worth.{unbroken}
 use Rattle.cr_meaning_typing.specs.Judged.Judged.{seen_in}
-use Rattle.cr_meaning_declarations.specs.Units.Owned.{AreOfUnit}
 use Rattle.cr_meaning_declarations.specs.Declared.Files.{IsUnitOfFile}
-use Rattle.cr_meaning_declarations.proofs.DeclaredLemmas.Nodes.{of_unit}
+use Rattle.cr_meaning_declarations.proofs.DeclaredLemmas.Files.{has_unit}
+use Rattle.cr_meaning_declarations.proofs.DeclaredLemmas.Plans.{of_initialised}
 use Rattle.cr_meaning_files.specs.Reached.{is_list}
-use Rattle.cr_meaning_files.proofs.Putting.{IsPut, AreEntries, second, filled_if, line_at, of_initialised}
+use Rattle.cr_meaning_files.proofs.Putting.{IsPut, AreEntries, second, filled_if, line_at}
+use Rattle.cr_scopes_linkage.proofs.SharedLemmas.Shared.{found}
 
 -- ---- an entry of which a test holds
-
-pub record IsFoundIn {A : Type 0} (test : A → Bool) (items : List A) : Type 0 where
-  pub place : ℕ
-  pub item : A
-  pub at : slice_get items place ≡ Some item
-  pub passes : test item ≡ true
-
-pub found : {A : Type 0} (test : A → Bool) (items : List A) → list_any test items ≡ true → IsFoundIn test items
-found test [] e = absurd (false≢true e)
-found test (x ∷ items) e = by (test x) refl e (λ f. found test items f)
-  where
-    by : (b : Bool) → test x ≡ b → (b || list_any test items) ≡ true → (list_any test items ≡ true → IsFoundIn test items) → IsFoundIn test (x ∷ items)
-    by true q f rest = record { place = 0; item = x; at = refl; passes = q }
-    by false q f rest = let r = rest f in record { place = suc r.place; item = r.item; at = r.at; passes = r.passes }
 
 -- ---- kinds of nodes that may not be there
 
@@ -136,20 +121,8 @@ entry_get shapes (y ∷ lines) zero x e = let same : y ≡ x = cc e in ap (λ z.
 entry_get shapes (y ∷ lines) (suc m) x e = entry_get shapes lines m x e
 
 module _ (file : List ℕ) (t : Typed) (it : IsUnitOfFile file t) where
-  abbrev pub unit : AreOfUnit t
-  unit = of_unit file t it
-
-  abbrev made_by : IsTypedBy file it.unit it.names it.checked.checked t
-  made_by = it.checked.by
-
-  abbrev typing : Typing
-  typing = it.checked.checked.whole.typing
-
-  abbrev shapes : List Shape
-  shapes = it.checked.checked.table
-
-  pub nodes_are : made_by.tree.nodes.now ≡ t.nodes
-  nodes_are = made_by.is.whole.tree.nodes ∙ sym made_by.elaborated.nodes_are
+  open it use {made_by, typing, shapes}
+  open has_unit file t it use {unit, tree_nodes as nodes_are}
 
   abbrev pub known : ℕ → Known
   known d = known_in shapes made_by.tree (cut d typing)

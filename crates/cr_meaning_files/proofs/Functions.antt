@@ -10,14 +10,13 @@ use Rattle.cr_check_expressions.specs.Forms.{form_of}
 use Rattle.cr_typed.specs.declared.typed.Typed.{Typed}
 use Rattle.cr_meaning_operations.specs.Operations.{kind_at, parts_if, is_automatic, is_case, is_declaration, is_static_initialiser}
 use Rattle.cr_meaning_typing.specs.Typed.Typing.{is_expression}
-use Rattle.cr_meaning_declarations.specs.Units.Owned.{AreOfUnit}
 use Rattle.cr_meaning_declarations.proofs.NamesLemmas.Parents.{IsPartOf, above_some}
 use Rattle.cr_meaning_declarations.specs.Declared.Files.{IsUnitOfFile}
+use Rattle.cr_meaning_declarations.proofs.DeclaredLemmas.Files.{has_unit}
+use Rattle.cr_meaning_declarations.proofs.LastingLemmas.Begun.{one_of}
 use Rattle.cr_meaning_files.specs.Reached.{is_item, is_declaring, is_list, is_listing, is_definition, is_block, is_going, goes_on, lives_below, lives_by, lives}
 use Rattle.cr_meaning_files.proofs.Tables.{item_is, item_apart, item_lists_nothing, case_item}
-use Rattle.cr_meaning_files.proofs.Tree.{has_part}
-use Rattle.cr_meaning_files.proofs.Living.{one_of}
-use Rattle.cr_meaning_files.proofs.Filling.{unit}
+use Rattle.cr_meaning_references.proofs.TreesLemmas.Tree.{has_part}
 use Rattle.cr_meaning_files.proofs.Laid.{around_at}
 
 -- an item hands on the function around it
@@ -27,7 +26,7 @@ hands_on kind.FunctionDefinition i a h = absurd (false≢true h)
 hands_on kind.Compound i a h = refl
 hands_on k i a h = refl
 
-begins_function : (k : Kind) (i : ℕ) (a : Around) → is_definition k ≡ true → (inside k i a).function ≡ Some i
+pub begins_function : (k : Kind) (i : ℕ) (a : Around) → is_definition k ≡ true → (inside k i a).function ≡ Some i
 unfolding inside
 begins_function kind.FunctionDefinition i a h = refl
 begins_function k i a h = absurd (false≢true h)
@@ -60,8 +59,7 @@ from_item t part k own item h =
     ]
 
 module _ (file : List ℕ) (t : Typed) (it : IsUnitOfFile file t) where
-  abbrev u : AreOfUnit t
-  u = unit file t it
+  open has_unit file t it use {unit as u}
 
   abbrev around : ℕ → Around
   around i = slice_index_or it.checked.checked.surroundings.around i outermost

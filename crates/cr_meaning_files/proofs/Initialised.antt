@@ -20,13 +20,11 @@ use Rattle.cr_check_initialisers.specs.Anchors.{is_array}
 use Rattle.cr_check_initialisers.specs.Places.{Place, object as object_place, sized, opens}
 use Rattle.cr_check_initialisers.specs.Plans.{Entry, put, excess, IsPlan, by_expression, by_list, is_open, count_in, length_asked, entry_of, entries_of, puts_of}
 use Rattle.cr_check_initialised.specs.Initialised.{Planned, planned_by, IsFilled}
-use Rattle.cr_check_unit.specs.declared.typing.Typing.{Typing}
 use Rattle.cr_check_unit.specs.Typing.{cut, object_in}
 use Rattle.cr_typed.specs.declared.typed.Typed.{Typed}
 use Rattle.cr_typed.specs.declared.typed.Put.{Put}
 use Rattle.cr_typed_columns.specs.Rows.{put_entry}
 use Rattle.cr_typed_columns.specs.Expressions.{fills_array, is_filling, is_array as is_array_type}
-use Rattle.cr_typed_unit.specs.Typed.{IsTypedBy}
 use Rattle.cr_meaning.specs.World.{Program}
 use Rattle.cr_meaning.specs.declared.run.Limits.{Limits}
 use Rattle.cr_meaning_soundness.specs.Sorts.{Sort, place, chars, statement, sort_of_scalar, sorts_in as sorts_of_cells}
@@ -37,13 +35,15 @@ use Rattle.cr_meaning_typing.specs.Typed.Good.{value_sort, place_sort, row_at}
 use Rattle.cr_meaning_typing.specs.Typed.Typing.{has_value, is_expression}
 use Rattle.cr_meaning_typing.specs.Judged.Judged.{seen_in, source_of, scene_of, IsJudged}
 use Rattle.cr_meaning_typing.proofs.JudgedLemmas.Judged.{judged}
-use Rattle.cr_meaning_types.specs.Known.Sighted.{AreSighted}
 use Rattle.cr_meaning_types.proofs.KnownLemmas.Listing.{mapped}
 use Rattle.cr_meaning_declarations.specs.Units.Owned.{AreOfUnit}
 use Rattle.cr_meaning_declarations.proofs.NamesLemmas.Parents.{IsPartOf}
 use Rattle.cr_meaning_declarations.specs.Sight.Under.{is_under}
 use Rattle.cr_meaning_declarations.proofs.SightLemmas.Under.{directly, deeper, not_above, under_at}
 use Rattle.cr_meaning_declarations.specs.Declared.Files.{IsUnitOfFile}
+use Rattle.cr_meaning_declarations.proofs.DeclaredLemmas.Nodes.{of_unit}
+use Rattle.cr_meaning_declarations.proofs.DeclaredLemmas.Files.{tree_of}
+use Rattle.cr_meaning_declarations.proofs.DeclaredLemmas.Plans.{of_initialised}
 use Rattle.cr_meaning_typing.specs.Expressions.Used.{beside_sort, used_sort}
 use Rattle.cr_meaning_typing.specs.Sorts.Table.{Judgement, size_at, exits_at, expression_sort, sort_at, sorts_in}
 use Rattle.cr_meaning_initialisation.specs.Initialised.Parts.{IsPart, IsPlaced}
@@ -54,22 +54,23 @@ use Rattle.cr_meaning_initialisation.proofs.InitialisedLemmas.Once.{put_once}
 use Rattle.cr_meaning_initialisation.proofs.InitialisedLemmas.Asked.{asked_for}
 use Rattle.cr_meaning_initialisation.proofs.InitialisedLemmas.Taken.{taken}
 use Rattle.cr_meaning_initialisation.proofs.InitialisedLemmas.Lines.{part_cells, lines as set_lines}
+use Rattle.cr_meaning_initialisation.proofs.CalledLemmas.Objects.{at_map as image}
 use Rattle.cr_meaning_typing.specs.Whole.Statements.{IsInitialised}
 use Rattle.cr_meaning_files.specs.Reached.{is_list, is_listing}
 use Rattle.cr_meaning_files.specs.Seen.{sees}
 use Rattle.cr_meaning_files.specs.Structures.{IsWhole, AreMembersWhole}
 use Rattle.cr_meaning_files.specs.Files.{judgement_of}
-use Rattle.cr_meaning_files.proofs.Tree.{HasPart, has_part}
-use Rattle.cr_meaning_files.proofs.Putting.{IsPut, of_initialised}
-use Rattle.cr_meaning_files.proofs.Filling.{unit, text_kind, typed_well, spelled_well, entry_get, nodes_are, known, initialisers_are, ruled, lines, nothing_there, initialised, holds, seen_low, filling, put_there}
+use Rattle.cr_meaning_references.proofs.TreesLemmas.Tree.{HasPart, has_part}
+use Rattle.cr_meaning_files.proofs.Putting.{IsPut}
+use Rattle.cr_meaning_files.proofs.Filling.{text_kind, typed_well, spelled_well, entry_get, known, initialisers_are, ruled, lines, nothing_there, initialised, holds, seen_low, filling, put_there}
 use Rattle.cr_meaning_files.proofs.Laid.{valued_is}
 use Rattle.cr_meaning_files.proofs.Calls.{text_there}
 use Rattle.cr_meaning_files.proofs.Apart.{form_kinds}
-use Rattle.cr_meaning_files.proofs.Declared.{image}
 use Rattle.cr_meaning_files.proofs.Completed.{IsEarly, complete_early, cells, sorts_are, are_cells, have_parts}
 use Rattle.cr_meaning_files.proofs.Small.{completed_few, element_few}
 use Rattle.cr_meaning_files.proofs.Whole.{planned_object, element_complete, completed_complete}
 use Rattle.cr_meaning_files.proofs.Composed.{object_cells}
+use Rattle.cr_meaning_files.proofs.Standing.{this_one as either_one}
 
 -- ---- lists
 
@@ -108,10 +109,6 @@ held t (plain (Struct node) c v) h = tt
 held t (plain of c v) h = absurd h
 held t (to c v below) h = tt
 held t (array n below) h = tt
-
-either_one : (a b : Bool) → (a || b) ≡ true → b ≡ false → a ≡ true
-either_one true b h g = refl
-either_one false b h g = absurd (false≢true (sym g ∙ h))
 
 abbrev entry_node : Entry → ℕ
 entry_node (put p i b) = i
@@ -181,19 +178,12 @@ module _ (t : Typed) (u : AreOfUnit t) where
       let down = low_in e d (climbs_within e d b a other one (put_under e c a two)) in
       omega (arith, up, down)
 
-module _ (file : List ℕ) (t : Typed) (it : IsUnitOfFile file t) (sighted : AreSighted it.checked.by.tree) (made : AreMembersWhole t) (worth : (i : ℕ) → is_expression (rule_form (kind_at t i)) ≡ true → has_value (seen_in it.checked.checked i).type ≡ true)
+module _ (file : List ℕ) (t : Typed) (it : IsUnitOfFile file t) (made : AreMembersWhole t) (worth : (i : ℕ) → is_expression (rule_form (kind_at t i)) ≡ true → has_value (seen_in it.checked.checked i).type ≡ true)
     (limits : Limits) (i : ℕ) (n : Node) (at : slice_get t.nodes i ≡ Some n) where
-  abbrev made_by : IsTypedBy file it.unit it.names it.checked.checked t
-  made_by = it.checked.by
+  open it use {made_by, shapes, typing}
 
   abbrev is : IsJudged t (seen_in it.checked.checked) (source_of made_by.tree it.checked.checked) (scene_of made_by.tree it.checked.checked) it.checked.checked.surroundings.above it.checked.checked.surroundings.around
   is = judged file it.unit it.names it.checked.checked t made_by
-
-  abbrev shapes : List Shape
-  shapes = it.checked.checked.table
-
-  abbrev typing : Typing
-  typing = it.checked.checked.whole.typing
 
   abbrev p : Program
   p = program_of t limits
@@ -276,14 +266,14 @@ module _ (file : List ℕ) (t : Typed) (it : IsUnitOfFile file t) (sighted : Are
       alone = λ o. by o plan;
       first = λ j rest e literal.
           let parts : parts_at t q.initialiser ≡ j ∷ rest = sym (initialisers_are file t it q.initialiser) ∙ e in
-          let inner = has_part t (unit file t it) q.initialiser 0 j (ap (λ xs. slice_get xs 0) parts) in
+          let inner = has_part t (of_unit file t it) q.initialiser 0 j (ap (λ xs. slice_get xs 0) parts) in
           let less = inner.below in
-          let node = ap (λ ns. kind_if (slice_get ns j)) (sym (nodes_are file t it)) ∙ text_kind (slice_get made_by.tree.nodes.now j) literal in
+          let node = ap (λ ns. kind_if (slice_get ns j)) (sym (tree_of file t it)) ∙ text_kind (slice_get made_by.tree.nodes.now j) literal in
           text_bytes j (omega (arith, less, under)) node;
     }
       where
         under : q.initialiser < i
-        under = (has_part t (unit file t it) i 1 q.initialiser second_is).below
+        under = (has_part t (of_unit file t it) i 1 q.initialiser second_is).below
 
         by : opens k i q.initialiser ≡ false → IsPlan k completed i q.initialiser (map (entry_of shapes) (slice_index_or typing.lines i [])) → 1 ≤ count_in (k.seen q.initialiser).type
         by o (by_expression shut e) = text_bytes q.initialiser under (texts q.initialiser e a)
@@ -307,7 +297,7 @@ module _ (file : List ℕ) (t : Typed) (it : IsUnitOfFile file t) (sighted : Are
             of_test true g =
                 let zeroed : q.type ≡ array 0 below = f ∙ ap (λ n. array n below) (eqb-true m 0 g) in
                 let own : completed ≡ array (length_asked k (array 0 below) first) below = as_type (array 0 below) zeroed in
-                let early = complete_early file t it made i below (element_complete file t it sighted i n at (length_asked k (array 0 below) first) below own) (element_few file t it sighted i (length_asked k (array 0 below) first) below own) in
+                let early = complete_early file t it made i below (element_complete file t it i n at (length_asked k (array 0 below) first) below own) (element_few file t it i (length_asked k (array 0 below) first) below own) in
                 let few = asked_for k (IsEarly file t it made i) (have_parts file t it made i) below i q.initialiser first early (bytes q (ap is_array own) plan second_is) (subst (λ type. IsPlan k type i q.initialiser first) zeroed is_first) in
                 ap is_open own ∙ ne_eqb (length_asked k (array 0 below) first) 0 (λ e. absurd (omega (arith, few, e)))
 
@@ -324,8 +314,8 @@ module _ (file : List ℕ) (t : Typed) (it : IsUnitOfFile file t) (sighted : Are
         by (Some p) g type h =
             let second_is = ap (λ o. slice_get (parts_if o) 1) at ∙ (of_initialised n.kind (cut i typing).layouts (object_in shapes (cut i typing) n) n.parts p g).1 in
             complete_early file t it made i completed
-            (completed_complete file t it sighted i n at init p g completed (length_asked k p.type h.first) refl h.is (sized_is p h.first h.is_first h.is h.plan second_is))
-            (completed_few file t it sighted i)
+            (completed_complete file t it i n at init p g completed (length_asked k p.type h.first) refl h.is (sized_is p h.first h.is_first h.is h.plan second_is))
+            (completed_few file t it i)
 
   -- ---- one put
 
@@ -333,7 +323,7 @@ module _ (file : List ℕ) (t : Typed) (it : IsUnitOfFile file t) (sighted : Are
     abbrev c : IsChecked own
     c = checked m own e
 
-    abbrev there : IsPut t (unit file t it) i own.user own.node × (is_list (kind_at t own.node) ≡ false)
+    abbrev there : IsPut t (of_unit file t it) i own.user own.node × (is_list (kind_at t own.node) ≡ false)
     there = put_there file t it i m own e
 
     node_is : own.node ≡ c.source.node
@@ -366,7 +356,7 @@ module _ (file : List ℕ) (t : Typed) (it : IsUnitOfFile file t) (sighted : Are
         let inner = any_at (fills_array shapes own.node) (slice_index_or typing.lines i []) c.number (line.Put c.source) c.line_at passes in
         let low = slice_get_within t.nodes i n at in
         let count = made_by.is.whole.typing.whole.lines in
-        let nodes = ap (λ (ns : List Node). length ns) (nodes_are file t it) in
+        let nodes = ap (λ (ns : List Node). length ns) (tree_of file t it) in
         let outer = any_at (λ lines. list_any (fills_array shapes own.node) lines) typing.lines i (slice_index_or typing.lines i []) (at_index typing.lines i (omega (arith, low, count, nodes))) inner in
         (λ j. list_any (λ lines. list_any (fills_array (made_by.are.table j) own.node) lines) (made_by.are.lines j)) ∙ outer
       where
@@ -384,14 +374,14 @@ module _ (file : List ℕ) (t : Typed) (it : IsUnitOfFile file t) (sighted : Are
         by true f =
             let x = filling file t it own.node f in
             let here = ap kind_if at ∙ initialised file t it i n at c.number (put_entry t.shapes own) own_entry in
-            let same : x.declarator ≡ i = one_declarator t (unit file t it) x.declarator i x.user own.user own.node x.is here x.put there.0 in
+            let same : x.declarator ≡ i = one_declarator t (of_unit file t it) x.declarator i x.user own.user own.node x.is here x.put there.0 in
             let line_here : slice_get (slice_index_or typing.lines i []) x.number ≡ Some (line.Put x.own) = ap (λ d. slice_get (slice_index_or typing.lines d []) x.number) (sym same) ∙ x.own_at in
             let entry_here = entry_get shapes (slice_index_or typing.lines i []) x.number (line.Put x.own) line_here in
             let plan = plan_of c.number (put_entry t.shapes own) own_entry in
             let part_place : Place = record { cell = x.own.cell; type = type_at shapes x.own.row } in
             let named : slice_get (map (entry_of shapes) (slice_index_or typing.lines i [])) x.number ≡ Some (put part_place own.node x.own.user) = entry_here ∙ ap (λ a. Some (put part_place a x.own.user)) x.own_is in
             let one : x.number ≡ c.number =
-            put_once t (unit file t it) k (initialisers_are file t it) completed i plan.0 (map (entry_of shapes) (slice_index_or typing.lines i [])) plan.1 own.node x.number c.number _ _ _ _ named own_entry in
+            put_once t (of_unit file t it) k (initialisers_are file t it) completed i plan.0 (map (entry_of shapes) (slice_index_or typing.lines i [])) plan.1 own.node x.number c.number _ _ _ _ named own_entry in
             let lines_same : line.Put x.own ≡ line.Put c.source = line_same line_here (ap (slice_get (slice_index_or typing.lines i [])) one ∙ c.line_at) in
             absurd (false≢true (sym a ∙ ap is_array type_is ∙ sym (same_array (type_at shapes c.source.row)) ∙ ap (sets_array shapes) (sym lines_same) ∙ x.arranged))
           where
@@ -408,8 +398,8 @@ module _ (file : List ℕ) (t : Typed) (it : IsUnitOfFile file t) (sighted : Are
     expression_is : sort_at p t j own.node ≡ expression_sort p t j own.node
     expression_is = ap (λ b. if b then expression_sort p t j own.node else statement (exits_at t j own.node)) expression
 
-    part : HasPart t (unit file t it) own.user there.0.part.place own.node
-    part = has_part t (unit file t it) own.user there.0.part.place own.node (ap (λ o. slice_get (parts_if o) there.0.part.place) there.0.part.at ∙ there.0.part.is)
+    part : HasPart t (of_unit file t it) own.user there.0.part.place own.node
+    part = has_part t (of_unit file t it) own.user there.0.part.place own.node (ap (λ o. slice_get (parts_if o) there.0.part.place) there.0.part.at ∙ there.0.part.is)
 
     valued : is_array (type_at t.shapes own.row) ≡ false → slice_index_or t.valued own.node false ≡ (seen_in it.checked.checked own.node).lvalue
     valued a =
@@ -455,7 +445,7 @@ module _ (file : List ℕ) (t : Typed) (it : IsUnitOfFile file t) (sighted : Are
     object_is : sorts_of_cells (p.shape (entity_of t (name_of t i))) ≡ cells file t it made i completed
     object_is =
         let q = planned_of_line c.number (put_entry t.shapes own) own_entry in
-        object_cells file t it sighted limits i n at init_is q.0.type (planned_object n.kind (cut i typing).layouts (object_in shapes (cut i typing) n) n.parts q.0 q.1) early_is.whole
+        object_cells file t it limits i n at init_is q.0.type (planned_object n.kind (cut i typing).layouts (object_in shapes (cut i typing) n) n.parts q.0 q.1) early_is.whole
 
     -- ---- it is taken
 

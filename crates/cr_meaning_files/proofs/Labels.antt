@@ -19,11 +19,9 @@ use Rattle.cr_check_labels.specs.Gotos.{item_label, is_key, last_labelled, else_
 use Rattle.cr_check_expressions.specs.Breaks.{IsAmong as IsBreakAmong}
 use Rattle.cr_check_statements.specs.Statements.{faults_in}
 use Rattle.cr_check_unit.specs.Statements.{labelled_in}
-use Rattle.cr_check.specs.declared.checked.Checked.{Checked}
 use Rattle.cr_typed.specs.declared.typed.Typed.{Typed}
 use Rattle.cr_typed_columns.specs.Reading.{parsed_of}
 use Rattle.cr_typed_columns.specs.Names.{is_goto, ref_of}
-use Rattle.cr_typed_unit.specs.Typed.{IsTypedBy}
 use Rattle.cr_meaning.specs.declared.op.Form.TheVariants as form
 use Rattle.cr_meaning.specs.declared.op.Target.{Target}
 use Rattle.cr_meaning_soundness.specs.Sorts.{IsAmong}
@@ -34,16 +32,16 @@ use Rattle.cr_meaning_typing.proofs.TypedLemmas.Worth.{unbroken}
 use Rattle.cr_meaning_typing.proofs.TypedLemmas.Units.{listed_at}
 use Rattle.cr_meaning_typing.specs.Judged.Judged.{seen_in, source_of, scene_of, IsJudged}
 use Rattle.cr_meaning_typing.proofs.JudgedLemmas.Judged.{judged}
-use Rattle.cr_meaning_declarations.specs.Units.Owned.{AreOfUnit}
 use Rattle.cr_meaning_declarations.specs.Declared.Files.{IsUnitOfFile}
+use Rattle.cr_meaning_declarations.proofs.DeclaredLemmas.Files.{has_unit}
 use Rattle.cr_meaning_typing.specs.Sorts.Table.{Judgement, labels_by, result_of, labels_of, exits_at}
 use Rattle.cr_meaning_typing.specs.Whole.Statements.{is_labelled}
 use Rattle.cr_meaning_files.specs.Reached.{is_item}
 use Rattle.cr_meaning_files.specs.Files.{judgement_of}
-use Rattle.cr_meaning_files.proofs.Grammar.{part_in, is_of}
-use Rattle.cr_meaning_files.proofs.Tables.{is_expression_part, expression_there, item_is}
-use Rattle.cr_meaning_files.proofs.Tree.{HasPart, has_part, at_most}
-use Rattle.cr_meaning_files.proofs.Filling.{unit}
+use Rattle.cr_meaning_references.proofs.TreesLemmas.Grammar.{part_in, is_of}
+use Rattle.cr_meaning_files.proofs.Tables.{item_is}
+use Rattle.cr_meaning_references.proofs.TreesLemmas.Tree.{HasPart, has_part, at_most}
+use Rattle.cr_meaning_references.proofs.TreesLemmas.Expressions.{is_expression_part, expression_there}
 use Rattle.cr_meaning_files.proofs.Laid.{around_at}
 use Rattle.cr_meaning_files.proofs.Places.{StandsAt, an_item, a_part, standing, is_item_place, labels_are_items}
 
@@ -165,14 +163,8 @@ some_is None h = absurd (false≢true (sym h))
 some_is (Some l) h = (l, refl)
 
 module _ (file : List ℕ) (t : Typed) (it : IsUnitOfFile file t) where
-  abbrev u : AreOfUnit t
-  u = unit file t it
-
-  abbrev checked : Checked
-  checked = it.checked.checked
-
-  abbrev made_by : IsTypedBy file it.unit it.names checked t
-  made_by = it.checked.by
+  open it use {checked.{checked}, made_by}
+  open has_unit file t it use {unit as u}
 
   abbrev is : IsJudged t (seen_in checked) (source_of made_by.tree checked) (scene_of made_by.tree checked) checked.surroundings.above checked.surroundings.around
   is = judged file it.unit it.names checked t made_by

@@ -8,10 +8,7 @@ pub mod Elements
 pub mod Declarers
 pub mod Entities
 pub mod Defined
-pub mod Grammar
 pub mod Tables
-pub mod Tree
-pub mod Above
 pub mod Living
 pub mod Seen
 pub mod Putting
@@ -27,8 +24,6 @@ pub mod Mains
 pub mod Functions
 pub mod Calls
 pub mod Results
-pub mod Fitting
-pub mod Shaped
 pub mod Assembled
 pub mod Returns
 pub mod Followed

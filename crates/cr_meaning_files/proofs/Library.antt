@@ -19,7 +19,6 @@ use Rattle.cr_check_declarators.specs.Functions.{is_int, is_plain_int, is_plain_
 use Rattle.cr_check_signatures.specs.Callees.Laws.{IsOf}
 use Rattle.cr_check_signatures.proofs.CalleesLemmas.Callees.{calls_typed}
 use Rattle.cr_typed.specs.declared.typed.Typed.{Typed}
-use Rattle.cr_typed_unit.specs.Typed.{IsTypedBy}
 use Rattle.cr_meaning.specs.World.{Program}
 use Rattle.cr_meaning.specs.declared.op.Callee.{Callee}
 use Rattle.cr_meaning.specs.declared.op.Callee.TheVariants as callee
@@ -137,8 +136,7 @@ not_abort : (name : List ℕ) → bytes_eq name (codes "exit") ≡ true → byte
 not_abort name e = ap (λ n. bytes_eq n (codes "abort")) ((bytes_eq-Decides name (codes "exit")).0 e)
 
 module _ (file : List ℕ) (t : Typed) (it : IsUnitOfFile file t) (i : ℕ) (n : Node) (at : slice_get t.nodes i ≡ Some n) (call : n.kind ≡ kind.Call) where
-  abbrev made_by : IsTypedBy file it.unit it.names it.checked.checked t
-  made_by = it.checked.by
+  open it use {made_by}
 
   abbrev name : List ℕ
   name = spelling_of file it.unit.tokens.list.items n.first

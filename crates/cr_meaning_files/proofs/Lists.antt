@@ -4,14 +4,13 @@ use Rattle.std.proofs.Common.{◌≡◌, ℕ, zero, suc, ◌+◌, ◌<◌, ◌�
 use Rattle.std.specs.Prelude.{if◌then◌else◌}
 use Rattle.std.specs.List.{list_all}
 use Rattle.std.proofs.lemmas.Bool.{false≢true, and_parts, or_left, or_right, eqb-true, eq-eqb, ne_eqb, not-true}
-use Rattle.std.proofs.lemmas.Option.{slice_get_within}
+use Rattle.std.proofs.lemmas.Option.{slice_get_within, same_Some}
 use Rattle.cr_syntax.specs.declared.node.Kind.{Kind}
 use Rattle.cr_syntax.specs.declared.node.Kind.TheVariants as kind
 use Rattle.cr_syntax.specs.declared.node.Node.{Node}
 use Rattle.cr_syntax.specs.declared.part.Part.{Part}
 use Rattle.cr_syntax.specs.Kept.{row_in}
 use Rattle.cr_syntax.specs.Tables.{rule_of, side_of}
-use Rattle.cr_syntax_order.specs.Listed.{AreListed}
 use Rattle.cr_syntax_nodes.specs.Laid.{stands_for}
 use Rattle.cr_scopes_events.specs.declared.event.Event.{Event}
 use Rattle.cr_scopes_events.specs.declared.event.Event.TheVariants as event
@@ -27,31 +26,31 @@ use Rattle.cr_scopes_bindings.specs.Stacks.{stack_of, found_in}
 use Rattle.cr_scopes_bindings.specs.Visible.{latest, visible, is_named as named_before}
 use Rattle.cr_scopes_bindings.proofs.Looking.{looked}
 use Rattle.cr_scopes_visibility.specs.Alone.Sight.{is_bound, is_used, IsSeen}
-use Rattle.cr_scopes_visibility.specs.Sight.Scopes.{is_using, is_tagging, IsApart}
+use Rattle.cr_scopes_visibility.specs.Sight.Scopes.{is_using, IsApart}
 use Rattle.cr_scopes_visibility.specs.Parameters.Definitions.{is_holding, AreOrdered, IsLone, AreWithin}
 use Rattle.cr_scopes_visibility.proofs.ParametersLemmas.Walks.{list_alone}
 use Rattle.cr_scopes_visibility.specs.Uses.Uses.{is_use}
 use Rattle.cr_check_enclosing.specs.Above.{above_of}
 use Rattle.cr_typed.specs.declared.typed.Typed.{Typed}
-use Rattle.cr_typed_unit.specs.Typed.{IsTypedBy}
 use Rattle.cr_meaning_operations.specs.Operations.{kind_if, kind_at, parts_if, parts_at, is_static_initialiser}
-use Rattle.cr_meaning_declarations.specs.Units.Owned.{AreOfUnit}
 use Rattle.cr_meaning_declarations.proofs.UnitsLemmas.Rows.{clear_side, clear_laid, clear_at}
 use Rattle.cr_meaning_declarations.proofs.UnitsLemmas.Handing.{laid_at, parts_below}
-use Rattle.cr_meaning_declarations.proofs.NamesLemmas.Leaves.{is_named, is_tagged, is_use as uses_name, is_word, word_once, named_once, no_tag, no_use}
+use Rattle.cr_meaning_declarations.proofs.NamesLemmas.Leaves.{is_named, is_use as uses_name, is_word, word_once, named_once, no_tag, no_use}
 use Rattle.cr_meaning_declarations.proofs.NamesLemmas.Walks.{without, clears}
 use Rattle.cr_meaning_declarations.proofs.NamesLemmas.Parents.{IsPartOf, part_below, one_parent, no_item, above_is, above_some}
 use Rattle.cr_meaning_declarations.specs.Declared.Files.{IsUnitOfFile}
 use Rattle.cr_meaning_declarations.specs.Sight.Under.{is_under}
 use Rattle.cr_meaning_declarations.proofs.SightLemmas.Under.{under_at, item_outside, not_above, outermost_outside}
 use Rattle.cr_meaning_declarations.proofs.SightLemmas.Orderly.{orderly}
+use Rattle.cr_meaning_declarations.proofs.DeclaredLemmas.Files.{has_unit}
+use Rattle.cr_meaning_declarations.proofs.SightLemmas.Names.{using_named, tagging_tagged}
+use Rattle.cr_meaning_declarations.proofs.LastingLemmas.Begun.{one_of}
 use Rattle.cr_syntax_nodes.specs.Nodes.{most}
 use Rattle.cr_meaning_files.specs.Reached.{is_item, is_definition, is_block, goes_on, lives_below, lives, is_passed, is_run_kind, is_reached}
 use Rattle.cr_meaning_files.specs.Seen.{sees}
-use Rattle.cr_meaning_files.proofs.Grammar.{Stands, part_in}
-use Rattle.cr_meaning_files.proofs.Living.{one_of, lives_is}
-use Rattle.cr_meaning_files.proofs.Filling.{unit}
-use Rattle.cr_meaning_files.proofs.Tree.{HasPart, has_part, as_part, at_most}
+use Rattle.cr_meaning_references.proofs.TreesLemmas.Grammar.{Stands, part_in}
+use Rattle.cr_meaning_files.proofs.Living.{lives_is}
+use Rattle.cr_meaning_references.proofs.TreesLemmas.Tree.{HasPart, has_part, as_part, at_most}
 use Rattle.cr_meaning_initialisation.proofs.InitialisedLemmas.Twice.{one_place}
 use Rattle.cr_meaning_files.proofs.Mains.{body_only}
 use Rattle.cr_meaning_files.proofs.Named.{plain_part}
@@ -134,23 +133,7 @@ using_used kind.Call h = refl
 using_used kind.TypedefName h = refl
 using_used k h = absurd (false≢true h)
 
-using_named : (k : Kind) → is_using k ≡ true → is_named k ≡ true
-using_named kind.Identifier h = refl
-using_named kind.Call h = refl
-using_named kind.TypedefName h = refl
-using_named k h = absurd (false≢true h)
-
-tagging_tagged : (k : Kind) → is_tagging k ≡ true → is_tagged k ≡ true
-tagging_tagged kind.StructTag h = refl
-tagging_tagged kind.EnumTag h = refl
-tagging_tagged kind.StructContent h = refl
-tagging_tagged kind.EnumContent h = refl
-tagging_tagged k h = absurd (false≢true h)
-
 -- ---- lists
-
-some_same : {A : Type 0} (x y : A) → Some x ≡ Some y → x ≡ y
-some_same x y e = cc
 
 -- what is visible at a use is in scope there
 found_bound : (stack : List Binding) (s token : ℕ) → found_in stack s ≡ Some token → is_bound token stack ≡ true
@@ -158,7 +141,7 @@ found_bound [] s token e = absurd (cc e)
 found_bound (Bound name own ∷ rest) s token e = by (name == s) refl e (λ f. found_bound rest s token f)
   where
     by : (b : Bool) → (name == s) ≡ b → (if b then Some own else found_in rest s) ≡ Some token → (found_in rest s ≡ Some token → is_bound token rest ≡ true) → ((own == token) || is_bound token rest) ≡ true
-    by true q f more = or_left (own == token) (is_bound token rest) (eq-eqb own token (some_same own token f))
+    by true q f more = or_left (own == token) (is_bound token rest) (eq-eqb own token (same_Some own token f))
     by false q f more = or_right (own == token) (is_bound token rest) (more f)
 found_bound (Mark ∷ rest) s token e = found_bound rest s token e
 
@@ -178,19 +161,8 @@ visible_seen name token site (event.Member t k ∷ past) used e = visible_seen n
 visible_seen name token site (event.Node i ∷ past) used e = visible_seen name token site past used e
 
 module _ (file : List ℕ) (t : Typed) (it : IsUnitOfFile file t) where
-  abbrev u : AreOfUnit t
-  u = unit file t it
-
-  abbrev made_by : IsTypedBy file it.unit it.names it.checked.checked t
-  made_by = it.checked.by
-
-  nodes_are : it.unit.nodes ≡ t.nodes
-  nodes_are = sym made_by.elaborated.nodes_are
-
-  order : AreListed t.nodes 0 t.items (length t.nodes)
-  order =
-      subst (λ is. AreListed t.nodes 0 is (length t.nodes)) (sym made_by.elaborated.items_are)
-      (subst (λ ns. AreListed ns 0 it.unit.items (length ns)) nodes_are it.listed)
+  open it use {made_by}
+  open has_unit file t it use {unit as u, nodes_are, order}
 
   abbrev above : ℕ → Option ℕ
   above a = above_of t.nodes (length t.nodes) a
@@ -211,7 +183,7 @@ module _ (file : List ℕ) (t : Typed) (it : IsUnitOfFile file t) where
           let F : Kind → Type 0 = λ c. clear_side is_holding (without kind.Compound kind.FunctionDeclarator) no_holding (side_of c) ≡ true in
           let row = clear_laid is_holding (without kind.Compound kind.FunctionDeclarator) no_holding u.tokens (side_of m.kind) (row_in t.nodes m.parts) m.first (m.last + 1) (subst F (sym is) content_clear) (laid_at t u i m at) in
           let one = clear_at is_holding (without kind.Compound kind.FunctionDeclarator) no_holding t.nodes u.below m.parts (parts_below t u i m at) row k p e in
-          let same : one.0 ≡ y = some_same one.0 y (sym one.1.0 ∙ there) in
+          let same : one.0 ≡ y = same_Some one.0 y (sym one.1.0 ∙ there) in
           subst (λ (z : Node). is_holding z.kind ≡ false) same one.1.1
 
   -- ---- a declared name and a used one
@@ -228,7 +200,7 @@ module _ (file : List ℕ) (t : Typed) (it : IsUnitOfFile file t) where
 
     no_enumerator : (j : ℕ) (y : Node) → slice_get t.nodes j ≡ Some y → y.kind ≡ kind.Enumerator → y.first ≡ n.first → ⊥
     no_enumerator j y at f same =
-        let one : n ≡ y = some_same n y (sym e_at ∙ ap (slice_get t.nodes) (one_named j y at (ap is_named f) same) ∙ at) in
+        let one : n ≡ y = same_Some n y (sym e_at ∙ ap (slice_get t.nodes) (one_named j y at (ap is_named f) same) ∙ at) in
         let never : kind.NameDeclarator ≡ kind.Enumerator = sym e_is ∙ ap (λ (z : Node). z.kind) one ∙ f in
         absurd cc
 
@@ -267,13 +239,13 @@ module _ (file : List ℕ) (t : Typed) (it : IsUnitOfFile file t) where
         second same =
             let is_l : i ≡ l = one_parent t u x i l (subst (λ y. IsPartOf t u y i) same (record { parent = m; at = at; place = k; is = e })) list_part in
             let zero_k : k ≡ 0 = only is_l in
-            let one : its_list.node ≡ m = some_same its_list.node m (sym its_list.at ∙ ap (slice_get t.nodes) (sym is_l) ∙ at) in
+            let one : its_list.node ≡ m = same_Some its_list.node m (sym its_list.at ∙ ap (slice_get t.nodes) (sym is_l) ∙ at) in
             one_place t u i 0 1 x m at (subst (λ y. slice_get m.parts y ≡ Some x) zero_k (e ∙ ap Some same)) (subst (λ (y : Node). slice_get y.parts 1 ≡ Some x) one its_list.is) (omega arith)
 
     pub list_two : (k p : ℕ) (m : Node) → slice_get t.nodes l ≡ Some m → slice_get m.parts (suc k) ≡ Some p → p ≡ x
     list_two zero p m at e =
-        let one : its_list.node ≡ m = some_same its_list.node m (sym its_list.at ∙ at) in
-        some_same p x (sym e ∙ subst (λ (y : Node). slice_get y.parts 1 ≡ Some x) one its_list.is)
+        let one : its_list.node ≡ m = same_Some its_list.node m (sym its_list.at ∙ at) in
+        same_Some p x (sym e ∙ subst (λ (y : Node). slice_get y.parts 1 ≡ Some x) one its_list.is)
     list_two (suc k) p m at e =
         let few = at_most t u l kind.FunctionDeclarator 2 listed refl list_counts in
         let w = slice_get_within m.parts (suc (suc k)) p e in

@@ -19,7 +19,8 @@ use Rattle.cr_meaning_typing.specs.Typed.Typing.{is_expression}
 use Rattle.cr_meaning_declarations.specs.Units.Owned.{AreOfUnit}
 use Rattle.cr_meaning_declarations.proofs.UnitsLemmas.Handing.{laid_at, parts_below}
 use Rattle.cr_meaning_files.specs.Reached.{is_item}
-use Rattle.cr_meaning_files.proofs.Tables.{expressions_stand, items_stand}
+use Rattle.cr_meaning_files.proofs.Tables.{items_stand}
+use Rattle.cr_meaning_references.proofs.TreesLemmas.Expressions.{expressions_stand}
 
 declaration_alone : (k : Kind) → stands_for part.Declaration k ≡ true → k ≡ kind.Declaration
 unfolding rule_of

@@ -23,24 +23,22 @@ use Rattle.cr_check_declarators.specs.Structures.{laid_out}
 use Rattle.cr_check_declarations.specs.Before.{rows_of}
 use Rattle.cr_check_declarations.specs.Contents.{layout_by}
 use Rattle.cr_check_declarations.specs.Named.{member_of, members_by}
-use Rattle.cr_check_unit.specs.declared.typing.Typing.{Typing}
 use Rattle.cr_check_unit.specs.Typing.{cut, entry_at, before_in, IsRuled, IsRuledIf, IsTyping}
-use Rattle.cr_check.specs.declared.checked.Checked.{Checked}
 use Rattle.cr_typed.specs.declared.typed.Typed.{Typed}
 use Rattle.cr_typed.specs.Typed.{IsBefore, MOST_CELLS, row_cells}
 use Rattle.cr_typed_columns.specs.Columns.{layout_at}
-use Rattle.cr_typed_unit.specs.Typed.{IsTypedBy}
 use Rattle.cr_meaning_operations.specs.Shapes.{type_of_node, cells_of}
 use Rattle.cr_meaning_operations.specs.Operations.{kind_if, kind_at, parts_if, part_at}
 use Rattle.cr_meaning_typing.specs.Typed.Placed.{IsObject}
 use Rattle.cr_meaning_typing.proofs.TypedLemmas.Units.{listed_at}
 use Rattle.cr_meaning_typing.specs.Expressions.Places.{IsMemberIn}
 use Rattle.cr_meaning_declarations.specs.Declared.Files.{IsUnitOfFile}
+use Rattle.cr_meaning_declarations.proofs.DeclaredLemmas.Files.{has_unit}
+use Rattle.cr_meaning_declarations.proofs.DeclaredLemmas.Nodes.{of_unit}
 use Rattle.cr_meaning_files.specs.Structures.{IsWhole, AreMembersWhole}
 use Rattle.cr_meaning_files.proofs.Cells.{exact_within, qualified_object, all_structured, before_structured, IsFull, some_cells, object}
-use Rattle.cr_meaning_files.proofs.Grammar.{part_in, Stands}
-use Rattle.cr_meaning_files.proofs.Tree.{has_part, needed}
-use Rattle.cr_meaning_files.proofs.Filling.{unit}
+use Rattle.cr_meaning_references.proofs.TreesLemmas.Grammar.{part_in, Stands}
+use Rattle.cr_meaning_references.proofs.TreesLemmas.Tree.{has_part, needed}
 use Rattle.cr_meaning_files.proofs.Members.{IsChosen, chosen_type, member_rows}
 
 pub map_map : {A B C : Type 0} (f : B → C) (g : A → B) (xs : List A) → map f (map g xs) ≡ map (λ x. f (g x)) xs
@@ -117,20 +115,11 @@ complete_whole t i (array n below) e =
     let both = and_parts (not (n == 0)) (is_complete_at t.nodes i below) e in (some_count n both.0, complete_whole t i below both.1)
 
 module _ (file : List ℕ) (t : Typed) (it : IsUnitOfFile file t) where
-  abbrev checked : Checked
-  checked = it.checked.checked
-
-  abbrev made_by : IsTypedBy file it.unit it.names checked t
-  made_by = it.checked.by
-
-  abbrev typing : Typing
-  typing = checked.whole.typing
+  open it use {checked.{checked}, made_by, typing}
+  open has_unit file t it use {count}
 
   h : IsTyping made_by.tree checked.texts checked.table checked.whole.typing
   h = made_by.is.whole.typing
-
-  count : length t.nodes ≡ length it.unit.nodes
-  count = ap length made_by.elaborated.nodes_are
 
   -- ---- the layouts are those that were checked
 
@@ -197,7 +186,7 @@ module _ (file : List ℕ) (t : Typed) (it : IsUnitOfFile file t) where
 
   pub rows_some : (d : ℕ) → d < length t.nodes → kind_at t d ≡ kind.StructContent → 1 ≤ length (slice_index_or t.members d [])
   rows_some d low content =
-      let u = unit file t it in
+      let u = of_unit file t it in
       let p = part_at t d 0 in
       let first = has_part t u d 0 p (needed t u d 0 kind.StructContent content refl (let one = content_counts in omega (arith, one))) in
       let is = content_part (kind_at t p) (subst (λ c. Stands (part_in (side_of c) 0) (kind_at t p)) content first.stands) in

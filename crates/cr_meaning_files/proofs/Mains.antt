@@ -1,5 +1,5 @@
 -- `main` is a definition, whose body is reached (C11 5.1.2.2.1).
-use Rattle.std.proofs.Common.{◌≡◌, ℕ, zero, suc, ◌<◌, true, false, List, [], Option, None, Some, length, slice_get, refl, sym, ap, subst, ◌∙◌, arith, if◌then◌else◌}
+use Rattle.std.proofs.Common.{◌≡◌, ℕ, true, false, List, [], Option, None, Some, length, slice_get, refl, sym, ap, subst, ◌∙◌, arith, if◌then◌else◌}
 use Rattle.std.proofs.lemmas.Bool.{and_parts, false≢true, or_right}
 use Rattle.std.proofs.lemmas.Option.{slice_get_within}
 use Rattle.cr_ints.specs.declared.kind.IntKind.TheVariants.{Int as IntegerKind}
@@ -16,26 +16,25 @@ use Rattle.cr_typed.specs.declared.typed.Typed.{Typed}
 use Rattle.cr_typed_columns.specs.Reading.{parsed_of}
 use Rattle.cr_typed_columns.specs.Entities.{is_definition as is_definition_if}
 use Rattle.cr_typed_columns.specs.Functions as functions
-use Rattle.cr_typed_unit.specs.Typed.{IsTypedBy}
 use Rattle.cr_meaning.specs.declared.op.Form.{Form}
 use Rattle.cr_meaning.specs.declared.op.Form.TheVariants as form
-use Rattle.cr_meaning_operations.specs.Operations.{kind_if, kind_at, part_at, is_name, name_by, name_of, nodes_from, is_static_initialiser}
+use Rattle.cr_meaning_operations.specs.Operations.{kind_if, kind_at, part_at, is_name, name_of, nodes_from, is_static_initialiser}
 use Rattle.cr_meaning_typing.specs.Typed.Typing.{is_expression}
 use Rattle.cr_meaning_typing.specs.Typed.Placed.{exits_in}
 use Rattle.cr_meaning_soundness.specs.Statements.{of_function}
 use Rattle.cr_meaning_typing.specs.Sorts.Table.{labels_of, result_of, exits_at}
-use Rattle.cr_meaning_declarations.specs.Units.Owned.{AreOfUnit}
 use Rattle.cr_meaning_declarations.specs.Declared.Files.{IsUnitOfFile}
+use Rattle.cr_meaning_declarations.proofs.DeclaredLemmas.Files.{has_unit}
+use Rattle.cr_meaning_declarations.proofs.LastingLemmas.Firsts.{name_here}
 use Rattle.cr_meaning_composites.proofs.MainsLemmas.Mains.{main_is}
 use Rattle.cr_meaning_typing.proofs.WholeLemmas.Whole.{is_initialiser}
 use Rattle.cr_meaning_typing.specs.Whole.Statements.{is_statement}
 use Rattle.cr_meaning_typing.specs.Sorts.Founded.{is_followed}
 use Rattle.cr_meaning_files.specs.Reached.{is_definition, is_block, is_run_kind, is_reached}
-use Rattle.cr_meaning_files.proofs.Grammar.{part_in, Stands}
-use Rattle.cr_meaning_files.proofs.Tree.{HasPart, has_part, as_part, needed}
+use Rattle.cr_meaning_references.proofs.TreesLemmas.Grammar.{part_in, Stands}
+use Rattle.cr_meaning_references.proofs.TreesLemmas.Tree.{HasPart, has_part, as_part, needed}
 use Rattle.cr_meaning_files.proofs.Living.{starts, body_lives, reach, unfollowed}
 use Rattle.cr_meaning_files.specs.Files.{judgement_of}
-use Rattle.cr_meaning_files.proofs.Filling.{unit}
 use Rattle.cr_meaning_files.proofs.Laid.{around_at}
 
 only_definition : (o : Option Kind) → is_definition_if o ≡ true → o ≡ Some kind.FunctionDefinition
@@ -65,11 +64,6 @@ inside_function : (labels : Option ℕ → List ℕ) (result : Option ℕ → Fo
 unfolding inside
 inside_function labels result definition a e = λ k. record { breaks = false; continues = false; labels = e k; result = result (Some definition) }
 
--- a name's own declarator
-name_here : (t : Typed) (m i : ℕ) → 0 < m → is_name (kind_at t i) ≡ true → name_by m t i ≡ i
-name_here t zero i some e = absurd (omega (arith, some))
-name_here t (suc m) i some e = ap (λ b. if b then i else name_by m t (part_at t i 0)) e
-
 pub names_here : (t : Typed) (i : ℕ) → kind_at t i ≡ kind.NameDeclarator → name_of t i ≡ i
 names_here t i e = by (slice_get t.nodes i) refl
   where
@@ -78,11 +72,8 @@ names_here t i e = by (slice_get t.nodes i) refl
     by (Some n) at = let within = slice_get_within t.nodes i n at in name_here t (length t.nodes) i (omega (arith, within)) (ap is_name e)
 
 module _ (file : List ℕ) (t : Typed) (it : IsUnitOfFile file t) where
-  abbrev made_by : IsTypedBy file it.unit it.names it.checked.checked t
-  made_by = it.checked.by
-
-  abbrev u : AreOfUnit t
-  u = unit file t it
+  open it use {made_by}
+  open has_unit file t it use {unit as u}
 
   -- ---- initialisers of static objects
 

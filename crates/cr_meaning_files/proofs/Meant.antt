@@ -2,10 +2,10 @@
 -- once, or has none (C11 6.2.1p4, 6.2.2).
 use Rattle.std.proofs.Common.{◌≡◌, ℕ, zero, suc, ◌+◌, ◌<◌, ◌≤◌, ◌==◌, ◌⊎◌, inl, inr, Bool, true, false, not, ◌&&◌, ◌||◌, List, [], ◌∷◌, None, Some, length, slice_get, slice_index_or, refl, sym, ap, subst, ◌∙◌, arith, if◌then◌else◌}
 use Rattle.std.proofs.lemmas.Bool.{cases_eq, false≢true, and_parts, or_left, or_right, ne_eqb}
+use Rattle.std.proofs.lemmas.Option.{same_Some}
 use Rattle.cr_syntax.specs.declared.node.Kind.{Kind}
 use Rattle.cr_syntax.specs.declared.node.Kind.TheVariants as kind
 use Rattle.cr_syntax.specs.declared.node.Node.{Node as SyntaxNode}
-use Rattle.cr_syntax_order.specs.Listed.{AreListed}
 use Rattle.cr_scopes_events.specs.declared.event.Role.{Role}
 use Rattle.cr_scopes_events.specs.declared.event.Role.TheVariants as role
 use Rattle.cr_scopes_events.specs.declared.event.Event.{Event}
@@ -36,15 +36,12 @@ use Rattle.cr_scopes_visibility.proofs.ToldLemmas.Walks.{told}
 use Rattle.cr_scopes_visibility.specs.Uses.Uses.{is_declared, is_before, Finds}
 use Rattle.cr_scopes_visibility.proofs.UsesLemmas.Finding.{all_find}
 use Rattle.cr_typed.specs.declared.typed.Typed.{Typed}
-use Rattle.cr_typed_unit.specs.Typed.{IsTypedBy}
-use Rattle.cr_meaning_declarations.specs.Units.Owned.{AreOfUnit}
 use Rattle.cr_meaning_declarations.proofs.NamesLemmas.Walks as walks
 use Rattle.cr_meaning_declarations.proofs.NamesLemmas.Walks.{AreNamedWell, all_alone, unit_good}
 use Rattle.cr_meaning_declarations.specs.Declared.Files.{IsUnitOfFile}
-use Rattle.cr_meaning_declarations.proofs.DeclaredLemmas.Nodes.{of_unit}
 use Rattle.cr_meaning_declarations.proofs.LinkedLemmas.Owned.{HasOwn, own_there, one_declaration, one_role}
-use Rattle.cr_meaning_declarations.proofs.LinkedLemmas.Order.{order_of}
 use Rattle.cr_meaning_declarations.proofs.LinkedLemmas.Sorts.{one_sort}
+use Rattle.cr_meaning_declarations.proofs.DeclaredLemmas.Files.{has_unit}
 use Rattle.cr_meaning_references.proofs.ToldLemmas.Orderly.{apart}
 use Rattle.cr_meaning_composites.proofs.MainsLemmas.Defined.{value_plain, never_past, each, values}
 use Rattle.cr_meaning_composites.proofs.ObjectsLemmas.Declaring.{entity_of_declared}
@@ -85,7 +82,7 @@ few_times : (token : ℕ) (events : List Event) → count_of token events ≤ 1 
 few_times token events few = let same = times_are token (past_of events (length events)) in let less = counted events token few in omega (arith, same, less)
 
 -- what is declared before a use is told
-declared_named : (token : ℕ) (past : List Event) → is_declared token past ≡ true → is_named token past ≡ true
+pub declared_named : (token : ℕ) (past : List Event) → is_declared token past ≡ true → is_named token past ≡ true
 declared_named token [] h = h
 declared_named token (Name t r ∷ past) h = by (stands_in Ordinary r && (token == t)) refl h (λ g. declared_named token past g)
   where
@@ -128,17 +125,8 @@ listed_or_not (x ∷ ps) p = elim (cases_eq x p) [
 ]
 
 module _ (file : List ℕ) (t : Typed) (it : IsUnitOfFile file t) where
-  unit : AreOfUnit t
-  unit = of_unit file t it
-
-  order : AreListed t.nodes 0 t.items (length t.nodes)
-  order = order_of file t it
-
-  abbrev made_by : IsTypedBy file it.unit it.names it.checked.checked t
-  made_by = it.checked.by
-
-  nodes_are : it.unit.nodes ≡ t.nodes
-  nodes_are = sym made_by.elaborated.nodes_are
+  open it use {made_by}
+  open has_unit file t it use {unit, order, nodes_are}
 
   abbrev tokens : ℕ
   tokens = length it.unit.tokens.list.items
@@ -256,7 +244,7 @@ module _ (file : List ℕ) (t : Typed) (it : IsUnitOfFile file t) where
       finds = all_find name events n.first it.known.right use_told.used
 
       found : finds.declared ≡ token
-      found = walks.some_same finds.declared token (sym finds.is ∙ sees)
+      found = walks.same_Some finds.declared token (sym finds.is ∙ sees)
 
       named : is_named token past ≡ true
       named = declared_named token past (subst (λ y. is_declared y past ≡ true) found (before_declared finds.declared n.first past finds.before))

@@ -19,13 +19,10 @@ use Rattle.cr_check_expressions.specs.declared.known.Member.{Member}
 use Rattle.cr_check_expressions.specs.Known.{row_of_name}
 use Rattle.cr_check_expressions.specs.Forms.{form_of}
 use Rattle.cr_check_expressions.specs.Ruled.{member_in, no_fact, operand, pointed_structure, ruled, seen_in as seen_if}
-use Rattle.cr_check_unit.specs.declared.typing.Typing.{Typing}
-use Rattle.cr_check.specs.declared.checked.Checked.{Checked}
 use Rattle.cr_typed.specs.declared.typed.Typed.{Typed}
 use Rattle.cr_typed_columns.specs.Reading.{part_of, entry_of}
 use Rattle.cr_typed_columns.specs.Columns.{is_structure}
 use Rattle.cr_typed_columns.specs.Expressions.{number_of_name, last_if, structure_by, pointed_structure as structure_behind, chosen_of, seen_of}
-use Rattle.cr_typed_unit.specs.Typed.{IsTypedBy}
 use Rattle.cr_meaning_operations.specs.Shapes.{type_of_node, structure_of, as_value}
 use Rattle.cr_meaning_operations.specs.Operations.{parts_if, part_at, pointed, left_type, chosen_row}
 use Rattle.cr_meaning_typing.specs.Typed.Typing.{has_value}
@@ -33,6 +30,7 @@ use Rattle.cr_meaning_typing.proofs.TypedLemmas.Units.{listed_at}
 use Rattle.cr_meaning_typing.specs.Judged.Judged.{seen_in, source_of, scene_of, IsJudged}
 use Rattle.cr_meaning_typing.proofs.JudgedLemmas.Judged.{judged}
 use Rattle.cr_meaning_declarations.specs.Declared.Files.{IsUnitOfFile}
+use Rattle.cr_meaning_declarations.proofs.DeclaredLemmas.Files.{has_unit}
 
 -- ---- the first member of a name, by its row and by its number
 
@@ -112,20 +110,11 @@ some_member None whole own e h = absurd (false≢true (sym (ap (λ (s : Seen). h
 some_member (Some type) whole own e h = (type, refl)
 
 module _ (file : List ℕ) (t : Typed) (it : IsUnitOfFile file t) where
-  abbrev checked : Checked
-  checked = it.checked.checked
-
-  abbrev made_by : IsTypedBy file it.unit it.names checked t
-  made_by = it.checked.by
-
-  abbrev typing : Typing
-  typing = checked.whole.typing
+  open it use {checked.{checked}, made_by, typing}
+  open has_unit file t it use {tree_nodes as nodes_are}
 
   abbrev is : IsJudged t (seen_in checked) (source_of made_by.tree checked) (scene_of made_by.tree checked) checked.surroundings.above checked.surroundings.around
   is = judged file it.unit it.names checked t made_by
-
-  nodes_are : made_by.tree.nodes.now ≡ t.nodes
-  nodes_are = made_by.is.whole.tree.nodes ∙ sym made_by.elaborated.nodes_are
 
   -- the types of a structure's members, by the rows of the typed unit
   pub member_rows : (node : ℕ) → node < length t.nodes → scripts.kind_at it.unit.nodes node ≡ Some kind.StructContent

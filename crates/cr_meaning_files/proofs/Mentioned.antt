@@ -5,7 +5,6 @@ use Rattle.std.proofs.lemmas.Option.{slice_get_within}
 use Rattle.cr_syntax.specs.declared.node.Kind.{Kind}
 use Rattle.cr_syntax.specs.declared.node.Kind.TheVariants as kind
 use Rattle.cr_syntax.specs.declared.node.Node.{Node}
-use Rattle.cr_syntax_order.specs.Listed.{AreListed}
 use Rattle.cr_scopes_events.specs.Scripts as scripts
 use Rattle.cr_scopes_bindings.specs.Entities as bound
 use Rattle.cr_scopes_linkage.specs.Shared.Origins.{is_external, IsDeclarer}
@@ -16,27 +15,24 @@ use Rattle.cr_check_expressions.specs.Forms.{form_of}
 use Rattle.cr_typed.specs.declared.typed.Typed.{Typed}
 use Rattle.cr_typed.specs.declared.typed.Duration.{Duration}
 use Rattle.cr_typed.specs.declared.typed.Duration.TheVariants as duration
-use Rattle.cr_typed_columns.specs.declared.checked.CheckedColumns.{CheckedColumns}
 use Rattle.cr_typed_columns.specs.Reading.{parsed_of, entry_of}
 use Rattle.cr_typed_columns.specs.Entities as entities
 use Rattle.cr_typed_columns.specs.Names as names
-use Rattle.cr_typed_unit.specs.Typed.{IsTypedBy}
 use Rattle.cr_meaning.specs.declared.run.Limits.{Limits}
 use Rattle.cr_meaning_operations.specs.Operations.{kind_at, entity_if, entity_of, program_of}
 use Rattle.cr_meaning_typing.specs.Typed.Placed.{IsNamed}
 use Rattle.cr_meaning_typing.specs.Typed.Typing.{has_value, is_expression}
-use Rattle.cr_meaning_declarations.specs.Units.Owned.{AreOfUnit}
 use Rattle.cr_meaning_typing.specs.Judged.Judged.{seen_in}
-use Rattle.cr_meaning_types.specs.Known.Sighted.{AreSighted}
 use Rattle.cr_meaning_declarations.specs.Declared.Files.{IsUnitOfFile}
 use Rattle.cr_meaning_declarations.proofs.DeclaredLemmas.Bodies.{listed_at}
 use Rattle.cr_meaning_declarations.proofs.LinkedLemmas.Owned.{HasOwn, own_there}
+use Rattle.cr_meaning_declarations.proofs.DeclaredLemmas.Files.{has_unit}
 use Rattle.cr_meaning_composites.specs.Composed.Laws.{IsObject}
 use Rattle.cr_meaning_composites.proofs.ObjectsLemmas.Declaring.{entity_of_declared}
+use Rattle.cr_meaning_composites.proofs.KeptLemmas.Defined.{no_goto as mention_plain}
 use Rattle.cr_meaning_files.specs.Celled.{SeesDeclared}
 use Rattle.cr_meaning_files.specs.Local.{is_object_by}
 use Rattle.cr_meaning_files.specs.Structures.{AreMembersWhole}
-use Rattle.cr_meaning_files.proofs.Filling.{unit}
 use Rattle.cr_meaning_files.proofs.Objects.{names_cells}
 use Rattle.cr_meaning_files.proofs.Seeing.{held, declared_type}
 
@@ -47,32 +43,9 @@ external_tells kind.Declaration h = refl
 external_tells kind.FunctionDefinition h = refl
 external_tells k h = absurd (false≢true h)
 
-mention_plain : (k : Kind) → names.is_mention (Some k) ≡ true → names.is_goto (Some k) ≡ false
-mention_plain kind.Identifier h = refl
-mention_plain kind.Call h = refl
-mention_plain kind.NameDeclarator h = refl
-mention_plain k h = absurd (false≢true h)
-
 module _ (file : List ℕ) (t : Typed) (it : IsUnitOfFile file t) where
-  abbrev u : AreOfUnit t
-  u = unit file t it
-
-  abbrev made_by : IsTypedBy file it.unit it.names it.checked.checked t
-  made_by = it.checked.by
-
-  abbrev columns : CheckedColumns
-  columns = made_by.columns
-
-  nodes_are : it.unit.nodes ≡ t.nodes
-  nodes_are = sym made_by.elaborated.nodes_are
-
-  count : length t.nodes ≡ length it.unit.nodes
-  count = ap length made_by.elaborated.nodes_are
-
-  order : AreListed t.nodes 0 t.items (length t.nodes)
-  order =
-      subst (λ is. AreListed t.nodes 0 is (length t.nodes)) (sym made_by.elaborated.items_are)
-      (subst (λ ns. AreListed ns 0 it.unit.items (length ns)) nodes_are it.listed)
+  open it use {made_by, columns}
+  open has_unit file t it use {unit as u, nodes_are, count, order}
 
   -- a name refers to the node that declares its entity first
   pub refers : (j : ℕ) (m : Node) → slice_get t.nodes j ≡ Some m → names.is_mention (Some m.kind) ≡ true
@@ -114,7 +87,7 @@ module _ (file : List ℕ) (t : Typed) (it : IsUnitOfFile file t) where
           ap (λ ns. entities.named_token ns i) nodes_are ∙ ap (λ o. if entities.is_name (scripts.kind_if o) then scripts.first_if o else None) at
           ∙ ap (λ k. if entities.is_name (Some k) then Some n.first else None) is
 
-  module _ (sighted : AreSighted it.checked.by.tree) (i : ℕ) (n : Node) (at : slice_get t.nodes i ≡ Some n) (is : n.kind ≡ kind.Identifier) (few : count_of n.first (unit_events it.unit) ≤ 1)
+  module _ (i : ℕ) (n : Node) (at : slice_get t.nodes i ≡ Some n) (is : n.kind ≡ kind.Identifier) (few : count_of n.first (unit_events it.unit) ≤ 1)
       (lvalue : (seen_in it.checked.checked i).lvalue ≡ true) (s : SeesDeclared file t it i n.first) where
     abbrev own : HasOwn t u order s.token
     own = own_there t u order s.token s.declarator s.is.name
@@ -166,4 +139,4 @@ module _ (file : List ℕ) (t : Typed) (it : IsUnitOfFile file t) where
     mentioned_named made worth limits =
         let declares = held file t it s.declaration s.is.place s.is.part s.declarator s.node s.is.at (external_tells s.node.kind s.is.external) s.is.is s.is.declares in
         let p = declared_type file t it i n at is few lvalue s.token s.declarator s.visible declares s.is.name in
-        names_cells file t it sighted made worth limits node s.declarator p.0 i declared_there p.1.0 p.1.1 same_entity mentioned_object
+        names_cells file t it made worth limits node s.declarator p.0 i declared_there p.1.0 p.1.1 same_entity mentioned_object

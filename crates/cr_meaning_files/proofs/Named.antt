@@ -19,7 +19,7 @@ use Rattle.cr_typed.specs.declared.typed.Duration.TheVariants as duration
 use Rattle.cr_meaning_soundness.specs.Sorts.{IsAmong}
 use Rattle.cr_meaning_typing.specs.Typed.Typing.{is_expression}
 use Rattle.cr_meaning_operations.specs.Operations.{kind_if, kind_at, parts_if, entity_of, is_automatic_by, is_declaration, is_static_initialiser, nodes_from}
-use Rattle.cr_meaning_declarations.specs.Units.Owned.{owns, AreOfUnit}
+use Rattle.cr_meaning_declarations.specs.Units.Owned.{owns}
 use Rattle.cr_meaning_declarations.proofs.UnitsLemmas.Rows.{clear_side, clear_laid, clear_at}
 use Rattle.cr_meaning_declarations.proofs.UnitsLemmas.Handing.{laid_at, parts_below}
 use Rattle.cr_meaning_declarations.proofs.NamesLemmas.Parents.{IsPartOf, part_below, above_some}
@@ -27,18 +27,18 @@ use Rattle.cr_meaning_declarations.specs.Declared.Files.{IsUnitOfFile}
 use Rattle.cr_meaning_declarations.specs.Sight.Under.{is_under}
 use Rattle.cr_meaning_declarations.proofs.SightLemmas.Under.{under_at, directly, deeper, further, not_above, outermost_outside}
 use Rattle.cr_meaning_declarations.proofs.SightLemmas.Names.{stands}
+use Rattle.cr_meaning_declarations.proofs.DeclaredLemmas.Files.{has_unit}
+use Rattle.cr_meaning_declarations.proofs.LastingLemmas.Begun.{one_of}
 use Rattle.cr_meaning_files.specs.Reached.{is_item, is_definition}
 use Rattle.cr_meaning_files.specs.Seen.{entered_for, finds}
 use Rattle.cr_meaning_files.specs.Local.{declaration_if, declaration_by, declaration_around, is_held_by, is_local, is_early}
-use Rattle.cr_meaning_files.proofs.Living.{one_of}
 use Rattle.cr_meaning_files.proofs.Loops.{whole}
 use Rattle.cr_meaning_files.proofs.Seen.{finds_entered, finds_outside}
-use Rattle.cr_meaning_files.proofs.Filling.{unit}
 use Rattle.cr_meaning_files.proofs.Sight.{among_passed, only_declaration, holds_declaration, entered}
 
 -- ---- a definition is no part of another node
 
-only_definition : (k : Kind) → is_definition k ≡ true → k ≡ kind.FunctionDefinition
+pub only_definition : (k : Kind) → is_definition k ≡ true → k ≡ kind.FunctionDefinition
 only_definition kind.FunctionDefinition h = refl
 only_definition k h = absurd (false≢true h)
 
@@ -52,11 +52,11 @@ no_definitions p k c s = by (is_definition k) refl
     by false q = refl
     by true q = absurd (false≢true (sym (not-true (stands_for p kind.FunctionDefinition) c) ∙ subst (λ (x : Kind). stands_for p x ≡ true) (only_definition k q) s))
 
-abbrev is_for : Kind → Bool
+abbrev pub is_for : Kind → Bool
 is_for kind.For = true
 is_for k = false
 
-only_for : (k : Kind) → is_for k ≡ true → k ≡ kind.For
+pub only_for : (k : Kind) → is_for k ≡ true → k ≡ kind.For
 only_for kind.For h = refl
 only_for k h = absurd (false≢true h)
 
@@ -83,8 +83,7 @@ entered_alike t holder p a kind.For h = refl
 entered_alike t holder p a k h = absurd (false≢true h)
 
 module _ (file : List ℕ) (t : Typed) (it : IsUnitOfFile file t) where
-  abbrev u : AreOfUnit t
-  u = unit file t it
+  open has_unit file t it use {unit as u}
 
   abbrev above : ℕ → Option ℕ
   above a = above_of t.nodes (length t.nodes) a

@@ -4,7 +4,6 @@ use Rattle.std.proofs.lemmas.Option.{slice_get_within}
 use Rattle.cr_syntax.specs.declared.node.Kind.{Kind}
 use Rattle.cr_syntax.specs.declared.node.Kind.TheVariants as kind
 use Rattle.cr_syntax.specs.declared.node.Node.{Node}
-use Rattle.cr_syntax_order.specs.Listed.{AreListed}
 use Rattle.cr_scopes_events.specs.declared.event.Role.{Role}
 use Rattle.cr_scopes_events.specs.declared.event.Event.{Event}
 use Rattle.cr_scopes_events.specs.Declarators.{declarator_of}
@@ -30,14 +29,11 @@ use Rattle.cr_scopes_visibility.specs.Once.Told.{count_of}
 use Rattle.cr_check_surroundings.specs.Named.{used_by, used_name, visible_if}
 use Rattle.cr_check_surroundings.specs.Raised.{raised_of}
 use Rattle.cr_typed.specs.declared.typed.Typed.{Typed}
-use Rattle.cr_typed_unit.specs.Typed.{IsTypedBy}
-use Rattle.cr_meaning_declarations.specs.Units.Owned.{AreOfUnit}
 use Rattle.cr_meaning_declarations.proofs.NamesLemmas.Leaves as leaves
 use Rattle.cr_meaning_declarations.specs.Declared.Files.{IsUnitOfFile}
-use Rattle.cr_meaning_declarations.proofs.DeclaredLemmas.Nodes.{of_unit}
 use Rattle.cr_meaning_declarations.proofs.DeclaredLemmas.Once.{automatic_at, alone}
 use Rattle.cr_meaning_declarations.proofs.LinkedLemmas.Owned.{own_there}
-use Rattle.cr_meaning_declarations.proofs.LinkedLemmas.Order.{order_of}
+use Rattle.cr_meaning_declarations.proofs.DeclaredLemmas.Files.{has_unit}
 use Rattle.cr_meaning_references.proofs.ToldLemmas.Orderly.{apart, named_within}
 use Rattle.cr_meaning_references.proofs.ToldLemmas.Names.{last_is}
 use Rattle.cr_meaning_composites.proofs.ObjectsLemmas.Alone.{linked_or_alone}
@@ -53,17 +49,8 @@ used_kind : (k : Kind) → k ≡ kind.Identifier → is_using k ≡ true
 used_kind k e = ap is_using e
 
 module _ (file : List ℕ) (t : Typed) (it : IsUnitOfFile file t) where
-  abbrev made_by : IsTypedBy file it.unit it.names it.checked.checked t
-  made_by = it.checked.by
-
-  unit : AreOfUnit t
-  unit = of_unit file t it
-
-  order : AreListed t.nodes 0 t.items (length t.nodes)
-  order = order_of file t it
-
-  nodes_are : it.unit.nodes ≡ t.nodes
-  nodes_are = sym made_by.elaborated.nodes_are
+  open it use {made_by}
+  open has_unit file t it use {unit, order, nodes_are}
 
   tokens_are : length t.tokens ≡ length it.unit.tokens.list.items
   tokens_are = ap length made_by.elaborated.tokens_are
@@ -165,4 +152,4 @@ steady file t it node own at automatic =
     inr (subst (λ (m : Node). IsAlone m.first (past_of (unit_events it.unit) (length (unit_events it.unit)))) same (alone file t it node x.node x.at x.is x.automatic))
 
 pub linked_or_steady : Laws.ObjectsAreLinkedOrSteady
-linked_or_steady file t it shaped token i q m d object = elim (linked_or_alone file t it shaped token i q m d object) [ inl x ↦ inl x | inr a ↦ inr (inr a) ]
+linked_or_steady file t it token i q m d object = elim (linked_or_alone file t it token i q m d object) [ inl x ↦ inl x | inr a ↦ inr (inr a) ]

@@ -1,10 +1,10 @@
 -- An object of the program has a type of objects, the composite of its declarations', and the cells of this type (C11 6.2.7p3, 6.7p7, 6.9.2, K6,
 -- K14): one of its declarations defines it, whose type is complete, by its declarator or by its initialiser.
-use Rattle.std.proofs.Common.{◌≡◌, ℕ, suc, ◌<◌, ◌≤◌, ◌==◌, ◌&&◌, inl, inr, Bool, true, false, not, nat_lt, List, [], ◌∷◌, Option, None, Some, length, slice_get, slice_index_or, refl, sym, ap, subst, ◌∙◌, arith, if◌then◌else◌}
+use Rattle.std.proofs.Common.{◌≡◌, ℕ, suc, ◌<◌, ◌≤◌, ◌==◌, ◌&&◌, inl, inr, Bool, true, false, not, nat_lt, List, Option, None, Some, length, slice_get, slice_index_or, refl, sym, ap, subst, ◌∙◌, arith, if◌then◌else◌}
 use Rattle.std.specs.Option.{is_some}
 use Rattle.std.proofs.lemmas.Bool.{false≢true, and_parts, not-true, eqb-true, ltb-true}
 use Rattle.std.proofs.lemmas.List.{get_or-take, length-map}
-use Rattle.std.proofs.lemmas.Option.{slice_get_within}
+use Rattle.std.proofs.lemmas.Option.{slice_get_within, same_Some}
 use Rattle.cr_memory.specs.declared.value.Scalar.{Scalar}
 use Rattle.cr_memory.specs.declared.value.Guard.{Guard}
 use Rattle.cr_syntax.specs.declared.node.Kind.{Kind}
@@ -12,13 +12,11 @@ use Rattle.cr_syntax.specs.declared.node.Kind.TheVariants as kind
 use Rattle.cr_syntax.specs.declared.node.Node.{Node}
 use Rattle.cr_syntax.specs.Tables.{rule_of, side_of}
 use Rattle.cr_syntax_nodes.specs.Nodes.{least}
-use Rattle.cr_scopes.specs.Resolved.{is_number}
 use Rattle.cr_scopes_bindings.specs.Last.{last_with}
 use Rattle.cr_scopes_events.specs.Scripts as scripts
 use Rattle.cr_scopes_linkage.specs.Shared.Origins.{is_external}
 use Rattle.cr_check_enclosing.specs.declared.context.Place.{Place}
 use Rattle.cr_check_types.specs.declared.layout.Layout.{Layout}
-use Rattle.cr_check_types.specs.declared.shape.Shape.{Shape}
 use Rattle.cr_check_types.specs.Types.{Qualified, plain, pointer as to, array, type_at}
 use Rattle.cr_check_types.specs.Relations.{composite_of, is_complete_at}
 use Rattle.cr_check_types.specs.Layouts.{layout_of}
@@ -28,25 +26,21 @@ use Rattle.cr_check_declarators.specs.declared.words.Class.{Class}
 use Rattle.cr_check_declarators.specs.declared.words.Class.TheVariants as class
 use Rattle.cr_check_declarators.specs.declared.words.Storage.{Storage}
 use Rattle.cr_check_declarators.specs.declared.words.Specified.{Specified}
-use Rattle.cr_check_declarators.specs.Specifiers.{nothing, is_member}
-use Rattle.cr_check_declarators.specs.Declarators.{most_cells, is_extern as is_extern_of, may_be_open, open_fault_of}
-use Rattle.cr_check_declarations.specs.declared.tree.Tree.{Tree}
-use Rattle.cr_check_declarations.specs.Before.{Before, kind_if as found_kind, parts_if as found_parts, kind_in, type_in, specified_in}
+use Rattle.cr_check_declarators.specs.Specifiers.{nothing}
+use Rattle.cr_check_declarators.specs.Declarators.{most_cells, is_extern as is_extern_of, may_be_open}
+use Rattle.cr_check_declarations.specs.Before.{kind_if as found_kind, parts_if as found_parts, kind_in, type_in, specified_in}
 use Rattle.cr_check_declarations.specs.Named.{class_of, is_typedef, is_initialised, specifiers_in, declaration_of}
-use Rattle.cr_check_declarations.specs.Faults.{Has, has_at, fault_at, token_if, name_token, place_of, declarator_faults, whole_faults}
+use Rattle.cr_check_declarations.specs.Faults.{has_at, name_token, place_of, declarator_faults, whole_faults}
 use Rattle.cr_check_initialisers.specs.Plans.{is_open}
 use Rattle.cr_check_initialised.specs.Durations.{is_kept_class, is_kept, is_static}
 use Rattle.cr_check_initialised.specs.Initialised.{Planned, object_of, is_planned, planned_in, planned_if, planned_by}
-use Rattle.cr_check_unit.specs.declared.typing.Typing.{Typing}
 use Rattle.cr_check_unit.specs.Typing.{cut, entry_at, before_in, object_in, declared_in}
 use Rattle.cr_typed.specs.declared.typed.Typed.{Typed}
 use Rattle.cr_typed.specs.declared.typed.Duration.TheVariants as duration
 use Rattle.cr_typed.specs.Typed.{MOST_CELLS}
-use Rattle.cr_typed_columns.specs.declared.checked.CheckedColumns.{CheckedColumns}
 use Rattle.cr_typed_columns.specs.Reading.{kind_of, part_of, entry_of}
 use Rattle.cr_typed_columns.specs.Entities as entities
 use Rattle.cr_typed_columns.specs.Names as names
-use Rattle.cr_typed_unit.specs.Typed.{IsTypedBy}
 use Rattle.cr_meaning.specs.declared.run.Limits.{Limits}
 use Rattle.cr_meaning_operations.specs.Shapes.{named_type, cells_of, shape_of, type_of_node}
 use Rattle.cr_meaning_operations.specs.Operations.{kind_if, kind_at, parts_if, part_at, entity_of, object_shape, program_of}
@@ -56,16 +50,16 @@ use Rattle.cr_meaning_typing.specs.Typed.Typing.{has_value, is_expression}
 use Rattle.cr_meaning_typing.specs.Judged.Judged.{seen_in}
 use Rattle.cr_check_expressions.specs.Forms.{form_of as rule_form}
 use Rattle.cr_meaning_types.specs.Known.Shaped.{IsPart}
-use Rattle.cr_meaning_types.specs.Known.Sighted.{AreSighted}
 use Rattle.cr_meaning_types.specs.Known.Sized as known_sized
-use Rattle.cr_meaning_types.proofs.KnownLemmas.Declaring.{unplaced}
-use Rattle.cr_meaning_types.proofs.KnownLemmas.Sized.{bracketless}
+use Rattle.cr_meaning_types.proofs.KnownLemmas.Sized.{bracketless, bracketed}
 use Rattle.cr_meaning_declarations.specs.Declared.Files.{IsUnitOfFile, assembled}
 use Rattle.cr_meaning_declarations.proofs.DeclaredLemmas.Bodies.{listed_at, last_has}
+use Rattle.cr_meaning_declarations.proofs.DeclaredLemmas.Files.{has_unit, tree_of}
+use Rattle.cr_meaning_declarations.proofs.DeclaredLemmas.Nodes.{of_unit}
 use Rattle.cr_meaning_references.proofs.TypedefsLemmas.Files.{are_seen}
 use Rattle.cr_meaning_composites.proofs.ChainedLemmas.Known.{there, words, HasWords, owned, IsOwned, definition_declares}
 use Rattle.cr_meaning_composites.proofs.ObjectsLemmas.Alone.{Stands, in_file, in_block, in_clause, stands_there}
-use Rattle.cr_meaning_references.proofs.KeptLemmas.Kept.{duration_at, duration_is}
+use Rattle.cr_meaning_composites.proofs.KeptLemmas.Kept.{duration_at, duration_is}
 use Rattle.cr_meaning_files.specs.Celled.{HasSizedElements}
 use Rattle.cr_meaning_files.proofs.Elements.{celled}
 use Rattle.cr_meaning_composites.specs.Composed.Laws.{Becomes, IsObject}
@@ -74,10 +68,11 @@ use Rattle.cr_meaning_types.specs.Fitting.Bounded.{IsBounded, Declares}
 use Rattle.cr_meaning_types.proofs.FittingLemmas.Names.{declares_all}
 use Rattle.cr_meaning_files.specs.Local.{is_object_by}
 use Rattle.cr_meaning_files.specs.Structures.{IsWhole, AreMembersWhole}
-use Rattle.cr_meaning_files.proofs.Tree.{needed}
+use Rattle.cr_meaning_references.proofs.TreesLemmas.Tree.{needed}
 use Rattle.cr_meaning_files.specs.Laws.{HasWholeCells, IsDeclaredAt}
-use Rattle.cr_meaning_files.proofs.Filling.{unit, nodes_are, ruled}
-use Rattle.cr_meaning_files.proofs.Shaped.{shaped, surrounded}
+use Rattle.cr_meaning_files.proofs.Filling.{ruled}
+use Rattle.cr_meaning_references.proofs.TreesLemmas.Shaped.{surrounded, shaped}
+use Rattle.cr_meaning_references.proofs.TreesLemmas.Sighted.{sighted}
 use Rattle.cr_meaning_files.proofs.Apart.{counted}
 use Rattle.cr_meaning_files.proofs.Made.{complete_whole, early, whole_some}
 use Rattle.cr_meaning_files.proofs.Completed.{before_later, complete_before}
@@ -85,9 +80,7 @@ use Rattle.cr_meaning_files.proofs.Small.{bounds, element_few}
 use Rattle.cr_meaning_files.proofs.Whole.{declares_object, DeclaresObject, is_scope, element_complete, declares, asked, complete_there}
 use Rattle.cr_meaning_files.proofs.Initialised.{completed_early}
 use Rattle.cr_meaning_files.proofs.Composed.{whole_sized}
-
-some_same : {A : Type 0} (x y : A) → Some x ≡ Some y → x ≡ y
-some_same x y e = cc
+use Rattle.cr_scopes_visibility.proofs.AloneLemmas.First.{number_same as number_is}
 
 -- ---- types
 
@@ -155,16 +148,6 @@ open_there p (in_clause e) c h = ap (λ x. may_be_open x c) e ∙ h
 
 -- ---- brackets without a size (K14)
 
-bracketed : (own : Has) (b : Before) (nodes : List Node) (i : ℕ) (at : Place) (storage : Option Class) (of : Qualified) (name : ℕ) → may_be_open at storage ≡ false
-    → HoldsAll (declarator_faults own b nodes i at storage false of name) → is_some own.declarator.sizeless ≡ false
-bracketed own b nodes i at storage of name shut h =
-    by (may_be_open at storage) shut
-    (unplaced 14 (open_fault_of own.declarator at storage false) (fault_at 41 (token_if (is_member at) own.declarator.volatile) ∷ []) (λ x among. h x (inr (inr (inr (inr among))))))
-  where
-    by : (b : Bool) → b ≡ false → is_some (if b then None else own.declarator.sizeless) ≡ false → is_some own.declarator.sizeless ≡ false
-    by true e f = absurd (false≢true (sym e))
-    by false e f = f
-
 -- ---- durations
 
 -- an object that a declaration declares lives by these two
@@ -186,36 +169,17 @@ not_over cells few = by (nat_lt most_cells cells) refl
     by false e = refl
     by true e = let more = ltb-true most_cells cells e in absurd (omega (arith, few, more))
 
-number_is : (o : Option ℕ) (k : ℕ) → is_number o k ≡ true → o ≡ Some k
-number_is None k h = absurd (false≢true h)
-number_is (Some j) k h = ap Some (eqb-true j k h)
-
 initialised_needs : 1 < least (side_of kind.InitDeclarator)
 unfolding rule_of
 initialised_needs = omega arith
 
-module _ (file : List ℕ) (t : Typed) (it : IsUnitOfFile file t) (sighted : AreSighted it.checked.by.tree) (made : AreMembersWhole t)
+module _ (file : List ℕ) (t : Typed) (it : IsUnitOfFile file t) (made : AreMembersWhole t)
     (worth : (i : ℕ) → is_expression (rule_form (kind_at t i)) ≡ true → has_value (seen_in it.checked.checked i).type ≡ true) (limits : Limits) where
-  abbrev made_by : IsTypedBy file it.unit it.names it.checked.checked t
-  made_by = it.checked.by
-
-  abbrev tree : Tree
-  tree = made_by.tree
+  open it use {made_by, tree, typing, shapes, columns}
+  open has_unit file t it use {nodes_are as same_nodes}
 
   abbrev ns : List Node
   ns = tree.nodes.now
-
-  abbrev typing : Typing
-  typing = it.checked.checked.whole.typing
-
-  abbrev shapes : List Shape
-  shapes = it.checked.checked.table
-
-  abbrev columns : CheckedColumns
-  columns = made_by.columns
-
-  same_nodes : it.unit.nodes ≡ t.nodes
-  same_nodes = sym made_by.elaborated.nodes_are
 
   abbrev named : ℕ → Qualified
   named p = type_at shapes (slice_index_or typing.named p 0)
@@ -229,14 +193,14 @@ module _ (file : List ℕ) (t : Typed) (it : IsUnitOfFile file t) (sighted : Are
     abbrev m : Node
     m = x.holder
 
-    o : IsOwned file t it (shaped file t it) x.own.first d r m
-    o = owned file t it (shaped file t it) x.own.first d r m x.declarer
+    o : IsOwned file t it x.own.first d r m
+    o = owned file t it x.own.first d r m x.declarer
 
     r_there : slice_get ns r ≡ Some o.node
-    r_there = there file t it (shaped file t it) r o.node o.at
+    r_there = there file t it r o.node o.at
 
     d_there : slice_get ns d ≡ Some m
-    d_there = there file t it (shaped file t it) d m x.declarer.at
+    d_there = there file t it d m x.declarer.at
 
     -- it stands in a declaration
     is_declaration : m.kind ≡ kind.Declaration
@@ -245,24 +209,24 @@ module _ (file : List ℕ) (t : Typed) (it : IsUnitOfFile file t) (sighted : Are
         by : (k : Kind) → m.kind ≡ k → is_external k ≡ true → m.kind ≡ kind.Declaration
         by kind.Declaration e h = e
         by kind.FunctionDefinition e h =
-            let f = definition_declares file t it (shaped file t it) x.own.first d r m x.declarer e in
+            let f = definition_declares file t it x.own.first d r m x.declarer e in
             let never : Object x.object.0 x.object.1.0 ≡ Function f.0 f.1.0 = sym x.object.1.1 ∙ f.1.1 in
             absurd cc
         by k e h = absurd (false≢true h)
 
     stands : Stands (place_of tree r)
-    stands = stands_there file t it (shaped file t it) x.own.first d r m x.declarer x.object
+    stands = stands_there file t it x.own.first d r m x.declarer x.object
 
     part_d : IsPart tree d m (suc x.declarer.place) x.declarer.part
     part_d = (shaped file t it).parts d m d_there (suc x.declarer.place) x.declarer.part x.declarer.is
 
     part_at_t : slice_get t.nodes x.declarer.part ≡ Some part_d.own
-    part_at_t = ap (λ xs. slice_get xs x.declarer.part) (sym (nodes_are file t it)) ∙ part_d.at
+    part_at_t = ap (λ xs. slice_get xs x.declarer.part) (sym (tree_of file t it)) ∙ part_d.at
 
     -- ---- its specifiers
 
-    w : HasWords file t it (shaped file t it) d m
-    w = words file t it (shaped file t it) d m x.declarer.at x.declarer.external
+    w : HasWords file t it d m
+    w = words file t it d m x.declarer.at x.declarer.external
 
     abbrev storage : Option Storage
     storage = (slice_index_or typing.specified w.specifiers nothing).storage
@@ -282,10 +246,10 @@ module _ (file : List ℕ) (t : Typed) (it : IsUnitOfFile file t) (sighted : Are
     object_there = ap declares_object x.object.1.1
 
     abbrev declared : DeclaresObject ns (before_in shapes (cut r typing)).specified (entry_at typing r).own.declarator (declaration_of ns tree.above.now r)
-    declared = declares file t it sighted r o.node o.at o.is object_there
+    declared = declares file t it r o.node o.at o.is object_there
 
     same_declaration : declared.declaration ≡ d
-    same_declaration = some_same declared.declaration d (sym declared.is ∙ o.declaration)
+    same_declaration = same_Some declared.declaration d (sym declared.is ∙ o.declaration)
 
     untyped : is_typedef (class_of storage) ≡ false
     untyped =
@@ -294,7 +258,7 @@ module _ (file : List ℕ) (t : Typed) (it : IsUnitOfFile file t) (sighted : Are
 
     asked_there : HoldsAll (whole_faults (has_at shapes (entry_at typing r).own) (before_in shapes (cut r typing)) tree r (Some d))
     asked_there =
-        subst (λ e. HoldsAll (whole_faults (has_at shapes (entry_at typing r).own) (before_in shapes (cut r typing)) tree r (Some e))) same_declaration (asked file t it sighted r o.node o.at o.is object_there)
+        subst (λ e. HoldsAll (whole_faults (has_at shapes (entry_at typing r).own) (before_in shapes (cut r typing)) tree r (Some e))) same_declaration (asked file t it r o.node o.at o.is object_there)
 
     -- ---- its type
 
@@ -302,7 +266,7 @@ module _ (file : List ℕ) (t : Typed) (it : IsUnitOfFile file t) (sighted : Are
     whole_closed : is_open (named r) ≡ false → IsWhole t (named r)
     whole_closed e =
         complete_whole t r (named r)
-        (ap (λ xs. is_complete_at xs r (named r)) (sym (nodes_are file t it)) ∙ complete_there file t it sighted r o.node o.at o.is object_there (scope_there (place_of tree r) stands) e)
+        (ap (λ xs. is_complete_at xs r (named r)) (sym (tree_of file t it)) ∙ complete_there file t it r o.node o.at o.is object_there (scope_there (place_of tree r) stands) e)
 
     above_there : x.declarer.part ≡ r → slice_index_or tree.above.now r None ≡ Some d
     above_there same = ap (λ p. slice_index_or tree.above.now p None) (sym same) ∙ part_d.above
@@ -310,7 +274,7 @@ module _ (file : List ℕ) (t : Typed) (it : IsUnitOfFile file t) (sighted : Are
     -- K14: without `extern` and without an initialiser it is no array of unknown size
     closed : x.declarer.part ≡ r → is_extern_of (class_of storage) ≡ false → is_open (named r) ≡ false
     closed same shut = same_open (named r) ∙ bracketless tree it.checked.checked.texts shapes typing made_by.is.whole.typing (λ b broken. made_by.sound.constraints b (inl broken)) (shaped file t it) (surrounded file t it)
-        sighted (are_seen file t (assembled file t it)) r o.node r_there o.is sizeless
+        (sighted file t it) (are_seen file t (assembled file t it)) r o.node r_there o.is sizeless
       where
         initialised_not : is_initialised (kind_in ns (slice_index_or tree.above.now r None)) ≡ false
         initialised_not = ap (λ p. is_initialised (kind_in ns p)) (above_there same) ∙ ap (λ p. is_initialised (found_kind p)) d_there ∙ ap (λ k. is_initialised (Some k)) is_declaration
@@ -335,7 +299,7 @@ module _ (file : List ℕ) (t : Typed) (it : IsUnitOfFile file t) (sighted : Are
       n = part_d.own
 
       is_init : n.kind ≡ kind.InitDeclarator
-      is_init = some_same n.kind kind.InitDeclarator (sym (ap scripts.kind_if part_at_t) ∙ init)
+      is_init = same_Some n.kind kind.InitDeclarator (sym (ap scripts.kind_if part_at_t) ∙ init)
 
       first_part : slice_get n.parts 0 ≡ Some r
       first_part = sym (ap (λ p. slice_get (scripts.parts_if p) 0) part_at_t) ∙ first
@@ -344,7 +308,7 @@ module _ (file : List ℕ) (t : Typed) (it : IsUnitOfFile file t) (sighted : Are
       r_below = ((shaped file t it).parts a n part_d.at 0 r first_part).below
 
       second : slice_get n.parts 1 ≡ Some (part_at t a 1)
-      second = sym (ap (λ p. slice_get (parts_if p) 1) part_at_t) ∙ needed t (unit file t it) a 1 kind.InitDeclarator (ap kind_if part_at_t ∙ is_init) refl initialised_needs
+      second = sym (ap (λ p. slice_get (parts_if p) 1) part_at_t) ∙ needed t (of_unit file t it) a 1 kind.InitDeclarator (ap kind_if part_at_t ∙ is_init) refl initialised_needs
 
       row_is : x.object.0 ≡ slice_index_or typing.named r 0
       row_is =
@@ -366,8 +330,8 @@ module _ (file : List ℕ) (t : Typed) (it : IsUnitOfFile file t) (sighted : Are
           by (plain of c v) f e = absurd (false≢true e)
           by (to c v below) f e = absurd (false≢true e)
           by (array count below) f e =
-              let early_below = before_later r a (omega (arith, r_below)) below (complete_before t.nodes r below (element_complete file t it sighted r o.node o.at count below f)) in
-              let few = element_few file t it sighted r count below f in
+              let early_below = before_later r a (omega (arith, r_below)) below (complete_before t.nodes r below (element_complete file t it r o.node o.at count below f)) in
+              let few = element_few file t it r count below f in
               let same = ap (λ (l : Layout). l.cells) (early file t it a below early_below) in
               ap (λ b. not (nat_lt most_cells (layout_of (cut a typing).layouts (if b then below else array count below)).cells)) e
               ∙ ap not (not_over (layout_of (cut a typing).layouts below).cells (omega (arith, few, same)))
@@ -381,7 +345,7 @@ module _ (file : List ℕ) (t : Typed) (it : IsUnitOfFile file t) (sighted : Are
       )
 
       whole_completed : is_open (named r) ≡ true → IsWhole t (named a)
-      whole_completed e = let q = planned e in (completed_early file t it sighted made worth limits a n part_at_t is_init q.0 q.1).whole
+      whole_completed e = let q = planned e in (completed_early file t it made worth limits a n part_at_t is_init q.0 q.1).whole
 
     -- ---- whether it defines the object
 
@@ -408,12 +372,12 @@ module _ (file : List ℕ) (t : Typed) (it : IsUnitOfFile file t) (sighted : Are
         shut same = sym (open_is same) ∙ not-true (entities.is_open it.unit.nodes columns (Some r)) (and_parts (entities.is_object (entities.declared_of columns (Some r))) (not (entities.is_open it.unit.nodes columns (Some r))) keeps).1
 
         by : (b : Bool) → is_open (named r) ≡ b → IsWhole t (named_type t (entity_of t node))
-        by false e = becomes_whole t (named r) (named_type t (entity_of t node)) (whole_closed e) (complete file t it (shaped file t it) sighted node r x)
+        by false e = becomes_whole t (named r) (named_type t (entity_of t node)) (whole_closed e) (complete file t it node r x)
         by true e = elim x.declarer.declares [
           | inl same ↦ absurd (false≢true (sym (closed same (shut_class storage (shut same))) ∙ e))
           | inr init ↦
               becomes_whole t (named x.declarer.part) (named_type t (entity_of t node)) (whole_completed init.0 init.1 e)
-              (initialised file t it (shaped file t it) sighted node r x x.declarer.part part_d.own part_at_t (is_init init.0 init.1) (first_part init.0 init.1))
+              (initialised file t it node r x x.declarer.part part_d.own part_at_t (is_init init.0 init.1) (first_part init.0 init.1))
         ]
 
     -- ---- how long it lives
@@ -471,14 +435,14 @@ module _ (file : List ℕ) (t : Typed) (it : IsUnitOfFile file t) (sighted : Are
     by_name : (i : ℕ) → entities.entity_of it.unit.nodes it.names i ≡ Some x.entity → ((r : ℕ) → (y : IsObject file t it i r) → entities.whole_of it.unit.nodes columns i ≡ Some r → entities.keeps it.unit.nodes columns (Some r) ≡ true)
         → IsWhole t (named_type t f)
     by_name i e keeps =
-        let y = objects_named file t it (shaped file t it) sighted node q x i e in
+        let y = objects_named file t it node q x i e in
         subst (λ z. IsWhole t (named_type t z)) y.1.1.1 (whole_kept i y.0 y.1.0 (keeps y.0 y.1.0 y.1.1.0))
 
     first_entity : entities.entity_of it.unit.nodes it.names f ≡ Some x.entity
-    first_entity = firsts file t it (shaped file t it) sighted node q x
+    first_entity = firsts file t it node q x
 
     first : (r : ℕ) × (IsObject file t it f r × ((entities.whole_of it.unit.nodes columns f ≡ Some r) × (entity_of t f ≡ f)))
-    first = objects_named file t it (shaped file t it) sighted node q x f first_entity
+    first = objects_named file t it node q x f first_entity
 
     -- a declaration of it defines it
     kept_name : entities.is_kept it.unit.nodes columns (Some x.entity) ≡ true → IsWhole t (named_type t f)
@@ -536,8 +500,8 @@ module _ (file : List ℕ) (t : Typed) (it : IsUnitOfFile file t) (sighted : Are
       by (plain of c v) e = tt
       by (to c v below) e = tt
       by (array count below) e =
-          let bound = subst (IsBounded ns typing.layouts (length ns)) e (bounds file t it sighted p).named in
-          whole_sized t below (complete_whole t (length ns) below (ap (λ xs. is_complete_at xs (length ns) below) (sym (nodes_are file t it)) ∙ bound.1.0))
+          let bound = subst (IsBounded ns typing.layouts (length ns)) e (bounds file t it p).named in
+          whole_sized t below (complete_whole t (length ns) below (ap (λ xs. is_complete_at xs (length ns) below) (sym (tree_of file t it)) ∙ bound.1.0))
 
   pub names_cells : (node q p i : ℕ) → IsObject file t it node q → IsDeclaredAt t q p → type_of_node t i ≡ named p → entity_of t i ≡ entity_of t node
       → is_object_by (slice_index_or t.durations (entity_of t i) duration.NoObject) ≡ true → IsNamed (program_of t limits) t i
@@ -547,8 +511,8 @@ module _ (file : List ℕ) (t : Typed) (it : IsUnitOfFile file t) (sighted : Are
       cells.counted cells.some cells.few
     where
       becomes : IsDeclaredAt t q p → Becomes (named p) (named_type t (entity_of t node))
-      becomes (inl same) = subst (λ z. Becomes (named z) (named_type t (entity_of t node))) (sym same) (complete file t it (shaped file t it) sighted node q x)
-      becomes (inr (n, (at, (is, first)))) = initialised file t it (shaped file t it) sighted node q x p n at is first
+      becomes (inl same) = subst (λ z. Becomes (named z) (named_type t (entity_of t node))) (sym same) (complete file t it node q x)
+      becomes (inr (n, (at, (is, first)))) = initialised file t it node q x p n at is first
 
       cells : HasWholeCells t limits (entity_of t i)
       cells = subst (HasWholeCells t limits) (sym entity) (has_cells node q x (subst (λ e. is_object_by (slice_index_or t.durations e duration.NoObject) ≡ true) entity there_is))

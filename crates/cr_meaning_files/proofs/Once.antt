@@ -1,5 +1,5 @@
 -- The token of an external declaration is told once: by its own declarator, since nothing else declares it and nothing stands above an item (C11 6.9).
-use Rattle.std.proofs.Common.{◌≡◌, ℕ, zero, suc, ◌+◌, ◌≤◌, ◌==◌, inl, inr, Bool, true, false, List, [], ◌∷◌, Option, None, Some, length, take, drop, slice_get, refl, sym, ap, subst, ◌∙◌, arith, if◌then◌else◌}
+use Rattle.std.proofs.Common.{◌≡◌, ℕ, zero, suc, ◌+◌, ◌≤◌, ◌==◌, inl, inr, Bool, true, false, List, [], ◌∷◌, Option, None, Some, take, drop, slice_get, refl, sym, ap, subst, ◌∙◌, arith, if◌then◌else◌}
 use Rattle.std.proofs.lemmas.Bool.{cases_lt, cases_eq, false≢true, eqb-true, eq-eqb, ne_eqb}
 use Rattle.cr_syntax.specs.declared.node.Kind.{Kind}
 use Rattle.cr_syntax.specs.declared.node.Kind.TheVariants as kind
@@ -18,17 +18,14 @@ use Rattle.cr_scopes_linkage.specs.Shared.Origins.{is_external, IsDeclaring, IsD
 use Rattle.cr_scopes_visibility.specs.Sight.Scopes.{is_tagging}
 use Rattle.cr_scopes_typedef_names.specs.Tellings.Tellings as tellings
 use Rattle.cr_typed.specs.declared.typed.Typed.{Typed}
-use Rattle.cr_typed_unit.specs.Typed.{IsTypedBy}
-use Rattle.cr_meaning_declarations.specs.Units.Owned.{AreOfUnit}
 use Rattle.cr_meaning_declarations.proofs.NamesLemmas.Leaves as leaves
 use Rattle.cr_meaning_declarations.proofs.NamesLemmas.Leaves.{no_tag, no_use}
 use Rattle.cr_meaning_declarations.proofs.NamesLemmas.Parents.{IsPartOf, part_below, one_parent, no_item, whole_is}
 use Rattle.cr_meaning_references.proofs.ConstantLemmas.Once.{risen}
-use Rattle.cr_meaning_references.proofs.KeptLemmas.Defined.{used_same}
+use Rattle.cr_meaning_composites.proofs.KeptLemmas.Defined.{used_same}
 use Rattle.cr_meaning_declarations.specs.Declared.Files.{IsUnitOfFile}
-use Rattle.cr_meaning_declarations.proofs.DeclaredLemmas.Nodes.{of_unit}
 use Rattle.cr_meaning_declarations.proofs.LinkedLemmas.Owned.{HasOwn, own_there, part_of, in_init, alone as in_no_other, one_declaration}
-use Rattle.cr_meaning_declarations.proofs.LinkedLemmas.Order.{order_of}
+use Rattle.cr_meaning_declarations.proofs.DeclaredLemmas.Files.{has_unit}
 use Rattle.cr_meaning_composites.proofs.MainsLemmas.Defined.{no_parameter, no_enumerator}
 use Rattle.cr_meaning_files.specs.Celled as Laws
 
@@ -129,17 +126,8 @@ module _ (token : ℕ) where
       by false q g = absurd (omega (arith, g))
 
 module _ (file : List ℕ) (t : Typed) (it : IsUnitOfFile file t) (token d q place : ℕ) (m : Node) (declared : IsDeclarer t.nodes token d q m) (item : slice_get t.items place ≡ Some d) where
-  unit : AreOfUnit t
-  unit = of_unit file t it
-
-  order : AreListed t.nodes 0 t.items (length t.nodes)
-  order = order_of file t it
-
-  abbrev made_by : IsTypedBy file it.unit it.names it.checked.checked t
-  made_by = it.checked.by
-
-  nodes_are : it.unit.nodes ≡ t.nodes
-  nodes_are = sym made_by.elaborated.nodes_are
+  open it use {made_by}
+  open has_unit file t it use {unit, order, nodes_are}
 
   own : HasOwn t unit order token
   own = own_there t unit order token q declared.name

@@ -5,26 +5,25 @@ use Rattle.std.proofs.lemmas.Option.{slice_get_within}
 use Rattle.cr_syntax.specs.declared.node.Kind.TheVariants as kind
 use Rattle.cr_syntax.specs.declared.node.Node.{Node}
 use Rattle.cr_scopes_events.specs.Scripts as scripts
-use Rattle.cr_scopes_visibility.proofs.ParametersLemmas.Walks.{reaches}
 use Rattle.cr_typed.specs.declared.typed.Typed.{Typed}
 use Rattle.cr_meaning_operations.specs.Operations.{kind_if, kind_at, parts_if, parts_at}
-use Rattle.cr_meaning_declarations.specs.Units.Owned.{AreOfUnit}
 use Rattle.cr_meaning_declarations.proofs.NamesLemmas.Parents.{IsPartOf}
 use Rattle.cr_meaning_declarations.specs.Declared.Files.{IsUnitOfFile}
 use Rattle.cr_meaning_declarations.specs.Sight.Under.{is_under}
 use Rattle.cr_meaning_declarations.proofs.SightLemmas.Under.{directly, deeper}
+use Rattle.cr_meaning_declarations.proofs.DeclaredLemmas.Files.{has_unit}
+use Rattle.cr_meaning_declarations.proofs.LastingLemmas.Begun.{one_of}
 use Rattle.cr_meaning_references.specs.Constant.Outside.{leads, IsOutside}
 use Rattle.cr_meaning_references.proofs.ConstantLemmas.Once.{once}
 use Rattle.cr_meaning_files.specs.Reached.{is_reached}
 use Rattle.cr_meaning_files.specs.Laws
-use Rattle.cr_meaning_files.proofs.Living.{one_of, reached_lives}
-use Rattle.cr_meaning_files.proofs.Filling.{unit}
-use Rattle.cr_meaning_files.proofs.Tree.{has_part, at_most}
+use Rattle.cr_meaning_files.proofs.Living.{reached_lives}
+use Rattle.cr_meaning_references.proofs.TreesLemmas.Tree.{has_part, at_most}
 use Rattle.cr_meaning_files.proofs.Lists.{list_counts, unlived_by}
+use Rattle.cr_scopes_visibility.proofs.SightLemmas.Reaching.{reaches}
 
 module _ (file : List ℕ) (t : Typed) (it : IsUnitOfFile file t) where
-  abbrev u : AreOfUnit t
-  u = unit file t it
+  open has_unit file t it use {unit as u}
 
   -- the declarator of a definition, or one under it
   abbrev IsWithin : ℕ → ℕ → Type 0

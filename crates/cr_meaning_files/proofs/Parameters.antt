@@ -4,11 +4,10 @@ use Rattle.std.specs.Prelude.{if◌then◌else◌, option_to_list}
 use Rattle.std.specs.List.{list_any, flat_map}
 use Rattle.std.proofs.lemmas.Bool.{false≢true, and_parts, or_left, or_right, eqb-true, eq-eqb, ne_eqb, not-true}
 use Rattle.std.proofs.lemmas.List.{get_or-take}
-use Rattle.std.proofs.lemmas.Option.{slice_get_within}
+use Rattle.std.proofs.lemmas.Option.{slice_get_within, same_Some}
 use Rattle.cr_syntax.specs.declared.node.Kind.{Kind}
 use Rattle.cr_syntax.specs.declared.node.Kind.TheVariants as kind
 use Rattle.cr_syntax.specs.declared.node.Node.{Node}
-use Rattle.cr_syntax_order.specs.Listed.{AreListed}
 use Rattle.cr_syntax_nodes.proofs.Numbers.{some_at}
 use Rattle.cr_scopes_events.specs.declared.declarator.Derivation.TheVariants as derivation
 use Rattle.cr_scopes_events.specs.Declarators.{declarator_of}
@@ -17,29 +16,22 @@ use Rattle.cr_scopes.specs.Resolved.{is_number}
 use Rattle.cr_scopes.specs.Spelled.{name_of as spelled_name}
 use Rattle.cr_scopes_bindings.specs.Last.{last_with}
 use Rattle.cr_scopes_visibility.specs.Parameters.Definitions.{AreOwn, AreInside}
-use Rattle.cr_scopes_visibility.proofs.ParametersLemmas.Walks.{reaches, inside_alone}
-use Rattle.cr_check_types.specs.declared.shape.Shape.{Shape}
+use Rattle.cr_scopes_visibility.proofs.ParametersLemmas.Walks.{inside_alone}
+use Rattle.cr_scopes_visibility.proofs.SightLemmas.Reaching.{reaches}
 use Rattle.cr_check_enclosing.specs.Above.{above_of}
 use Rattle.cr_check_expressions.specs.Known.{spelling_of}
 use Rattle.cr_check_declarators.specs.declared.declarator.Declarator.{Declarator}
-use Rattle.cr_check_declarators.specs.declared.declarator.Size.{Size}
-use Rattle.cr_check_declarators.specs.declared.declarator.Size.TheVariants as size
-use Rattle.cr_check_declarators.specs.Declarators.{name_alone, is_hole_type, array_of, function_by}
-use Rattle.cr_check_declarations.specs.declared.tree.Tree.{Tree}
+use Rattle.cr_check_declarators.specs.Declarators.{name_alone, is_hole_type, function_by}
 use Rattle.cr_check_declarations.specs.Before.{declarator_in}
 use Rattle.cr_check_declarations.specs.Declarators.{size_in, bracket_before, inner_derived, declarator_by}
-use Rattle.cr_check_unit.specs.declared.typing.Typing.{Typing}
 use Rattle.cr_check_unit.specs.Typing.{cut, entry_at, before_in, IsRuled, IsRuledIf}
 use Rattle.cr_typed.specs.declared.typed.Typed.{Typed}
 use Rattle.cr_typed.specs.declared.typed.Duration.TheVariants as duration
-use Rattle.cr_typed_columns.specs.declared.checked.CheckedColumns.{CheckedColumns}
 use Rattle.cr_typed_columns.specs.Reading.{parsed_of, entry_of, part_of}
 use Rattle.cr_typed_columns.specs.Entities as entities
 use Rattle.cr_typed_columns.specs.Functions as functions
-use Rattle.cr_typed_unit.specs.Typed.{IsTypedBy}
 use Rattle.cr_meaning_soundness.specs.Sorts.{IsAmong}
 use Rattle.cr_meaning_operations.specs.Operations.{kind_if, kind_at, parts_if, parts_at, part_at, entity_of, is_automatic_by, is_lasting, is_static_initialiser, nodes_from}
-use Rattle.cr_meaning_declarations.specs.Units.Owned.{AreOfUnit}
 use Rattle.cr_meaning_declarations.proofs.NamesLemmas.Leaves.{is_named, named_once}
 use Rattle.cr_meaning_declarations.proofs.NamesLemmas.Parents.{IsPartOf, part_below, one_parent, no_item, above_some}
 use Rattle.cr_meaning_declarations.specs.Declared.Files.{IsUnitOfFile}
@@ -48,34 +40,24 @@ use Rattle.cr_meaning_declarations.proofs.DeclaredLemmas.Once.{IsAutomatic, auto
 use Rattle.cr_meaning_declarations.specs.Sight.Under.{is_under}
 use Rattle.cr_meaning_declarations.proofs.SightLemmas.Under.{under_at, directly, deeper, further, alike, item_outside, not_above, outermost_outside}
 use Rattle.cr_meaning_declarations.proofs.SightLemmas.Names.{seen, entity_there}
+use Rattle.cr_meaning_declarations.proofs.DeclaredLemmas.Files.{has_unit}
+use Rattle.cr_meaning_declarations.proofs.LastingLemmas.Begun.{one_of}
 use Rattle.cr_meaning_files.specs.Reached.{is_definition}
 use Rattle.cr_meaning_files.specs.Seen.{entered_for, is_one_of, finds, sees}
 use Rattle.cr_meaning_files.specs.Local.{is_local, is_parameter_below, is_parameter, is_own_parameter, is_early, is_named_locally}
-use Rattle.cr_meaning_files.proofs.Living.{one_of}
 use Rattle.cr_meaning_files.proofs.Seen.{as_seen, finds_entered, finds_outside}
-use Rattle.cr_meaning_files.proofs.Filling.{unit}
-use Rattle.cr_meaning_files.proofs.Tree.{HasPart, has_part, as_part}
+use Rattle.cr_meaning_references.proofs.TreesLemmas.Tree.{HasPart, has_part, as_part}
 use Rattle.cr_meaning_initialisation.proofs.InitialisedLemmas.Twice.{one_place}
 use Rattle.cr_meaning_files.proofs.Mains.{body_at, block_at}
 use Rattle.cr_meaning_files.proofs.Sight.{among_passed, parameters_entered}
 use Rattle.cr_meaning_files.proofs.Named.{any_among, plain_part, finds_local}
 use Rattle.cr_meaning_files.proofs.Lists as lists
 use Rattle.cr_meaning_files.proofs.Lists.{outermost, names_apart}
+use Rattle.cr_check_signatures.proofs.ParametersLemmas.Listed.{array_function}
 
 -- ---- the grammar
 
-only_definition : (k : Kind) → is_definition k ≡ true → k ≡ kind.FunctionDefinition
-only_definition kind.FunctionDefinition h = refl
-only_definition k h = absurd (false≢true h)
-
 -- ---- lists
-
-some_same : {A : Type 0} (x y : A) → Some x ≡ Some y → x ≡ y
-some_same x y e = cc
-
-number_same : (o : Option ℕ) (k : ℕ) → is_number o k ≡ true → o ≡ Some k
-number_same None k e = absurd (false≢true e)
-number_same (Some j) k e = ap Some (eqb-true j k e)
 
 any_either : (test : ℕ → Bool) (xs ys : List ℕ) → list_any test (xs ++ ys) ≡ true → (list_any test xs ≡ true) ⊎ (list_any test ys ≡ true)
 any_either test [] ys h = inr h
@@ -95,46 +77,14 @@ any_option : (e : ℕ) (o : Option ℕ) → list_any (λ own. own == e) (option_
 any_option e None h = absurd (false≢true h)
 any_option e (Some x) h = elim (one_of (x == e) false h) [ inl same ↦ ap Some (eqb-true x e same) | inr never ↦ absurd (false≢true never) ]
 
-array_function : (inner : Declarator) (bracket : ℕ) (s : Size) → (array_of inner bracket s).function ≡ inner.function
-array_function inner bracket size.Open = refl
-array_function inner bracket size.Untyped = refl
-array_function inner bracket size.Wrong = refl
-array_function inner bracket (size.Known count) = refl
-
 function_or : (o : Option ℕ) (bare : Bool) (inner : Declarator) (node : ℕ) (empty : Bool) (l : ℕ) → o ≡ inner.function → (function_by o bare inner node empty).function ≡ Some l → (inner.function ≡ Some l) ⊎ (node ≡ l)
-function_or None true inner node empty l e h = inr (some_same node l h)
+function_or None true inner node empty l e h = inr (same_Some node l h)
 function_or None false inner node empty l e h = inl h
 function_or (Some x) bare inner node empty l e h = inl h
 
 module _ (file : List ℕ) (t : Typed) (it : IsUnitOfFile file t) where
-  abbrev u : AreOfUnit t
-  u = unit file t it
-
-  abbrev made_by : IsTypedBy file it.unit it.names it.checked.checked t
-  made_by = it.checked.by
-
-  abbrev typing : Typing
-  typing = it.checked.checked.whole.typing
-
-  abbrev shapes : List Shape
-  shapes = it.checked.checked.table
-
-  abbrev tree : Tree
-  tree = made_by.tree
-
-  abbrev columns : CheckedColumns
-  columns = made_by.columns
-
-  nodes_are : it.unit.nodes ≡ t.nodes
-  nodes_are = sym made_by.elaborated.nodes_are
-
-  tree_nodes : tree.nodes.now ≡ t.nodes
-  tree_nodes = made_by.is.whole.tree.nodes ∙ nodes_are
-
-  order : AreListed t.nodes 0 t.items (length t.nodes)
-  order =
-      subst (λ is. AreListed t.nodes 0 is (length t.nodes)) (sym made_by.elaborated.items_are)
-      (subst (λ ns. AreListed ns 0 it.unit.items (length ns)) nodes_are it.listed)
+  open it use {made_by, typing, shapes, tree, columns}
+  open has_unit file t it use {unit as u, nodes_are, tree_nodes, order}
 
   abbrev above : ℕ → Option ℕ
   above a = above_of t.nodes (length t.nodes) a
@@ -270,12 +220,9 @@ module _ (file : List ℕ) (t : Typed) (it : IsUnitOfFile file t) where
     q0_part : IsPartOf t u q0 d
     q0_part = as_part t u d 1 q0 named_by
 
-    list_part : IsPartOf t u x l
-    list_part = as_part t u l 1 x its_list
-
     differ : q0 ≡ body → ⊥
     differ same =
-        let one : named_by.node ≡ block_part.node = some_same named_by.node block_part.node (sym named_by.at ∙ block_part.at) in
+        let one : named_by.node ≡ block_part.node = same_Some named_by.node block_part.node (sym named_by.at ∙ block_part.at) in
         one_place t u d 1 2 body block_part.node block_part.at (subst (λ (y : Node). slice_get y.parts 1 ≡ Some body) one (named_by.is ∙ ap Some same)) block_part.is (omega arith)
 
     under_d : is_under t d l ≡ true
@@ -290,9 +237,6 @@ module _ (file : List ℕ) (t : Typed) (it : IsUnitOfFile file t) where
 
     abbrev under : ℕ → Bool
     under p = listing p || is_under t body p
-
-    node_kind : (i : ℕ) (n : Node) → slice_get t.nodes i ≡ Some n → kind_at t i ≡ n.kind
-    node_kind i n at = ap kind_if at
 
     differ_kinds : (i j : ℕ) (a b : Kind) → kind_at t i ≡ a → kind_at t j ≡ b → (a ≡ b → ⊥) → i ≡ j → ⊥
     differ_kinds i j a b e f other same = other (sym e ∙ ap (kind_at t) same ∙ f)
@@ -350,13 +294,10 @@ module _ (file : List ℕ) (t : Typed) (it : IsUnitOfFile file t) where
         let y = (reaches t.nodes (λ a. is_under t i a ≡ true) (λ a b n at_a derives f g. deeper t u i b a (record { parent = n; at = at_a; place = 0; is = f }) g) q (directly t u i q h)).next l next in
         one_top i d (outermost file t it i (ap is_definition (ap kind_if at ∙ is))) top_d (length t.nodes) l (omega arith) y.1.1.1 under_d
 
-    definition_node : (m : Node) × ((slice_get t.nodes d ≡ Some m) × (m.kind ≡ kind.FunctionDefinition))
-    definition_node = (block_part.node, (block_part.at, sym (ap kind_if block_part.at) ∙ defines))
-
     are_own : AreOwn t.nodes d l body
     are_own = record {
       bodied = λ q m at e.
-          some_same q body (sym e ∙ subst (λ (y : Node). slice_get y.parts 2 ≡ Some body) (some_same block_part.node m (sym block_part.at ∙ at)) block_part.is);
+          same_Some q body (sym e ∙ subst (λ (y : Node). slice_get y.parts 2 ≡ Some body) (same_Some block_part.node m (sym block_part.at ∙ at)) block_part.is);
       block = λ m at. sym (ap kind_if at) ∙ blocks;
       function = λ m at. sym (ap kind_if at) ∙ listed;
       no_other_list = list_below;
@@ -508,7 +449,7 @@ module _ (file : List ℕ) (t : Typed) (it : IsUnitOfFile file t) where
     of_list l x q0 k p defines named_by function its_list f g = of_parameter l x q0 p defines named_by function its_list (by (scripts.kind_at it.unit.nodes x) f) (slice_get (scripts.parts_at it.unit.nodes p) 1) refl g
       where
         lone : (j : ℕ) → slice_get (x ∷ []) j ≡ Some p → p ≡ x
-        lone zero h = sym (some_same x p h)
+        lone zero h = sym (same_Some x p h)
         lone (suc j) h = let never : None ≡ Some p = h in absurd cc
 
         by : (o : Option Kind) → slice_get (functions.listed_by o (scripts.parts_at it.unit.nodes x) x) k ≡ Some p → (p ≡ x) ⊎ ((k : ℕ) × (slice_get (scripts.parts_at it.unit.nodes x) k ≡ Some p))

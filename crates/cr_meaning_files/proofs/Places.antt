@@ -7,7 +7,7 @@ use Rattle.cr_syntax.specs.declared.node.Kind.{Kind}
 use Rattle.cr_syntax.specs.declared.node.Kind.TheVariants as kind
 use Rattle.cr_syntax.specs.declared.node.Node.{Node}
 use Rattle.cr_syntax.specs.Words.{Lexeme, lexemes_of}
-use Rattle.cr_syntax.specs.Trees.{Trees, none, node, ◌&◌, trees_of}
+use Rattle.cr_syntax.specs.Trees.{Trees, none, node, trees_of, ◌&◌}
 use Rattle.cr_syntax.specs.Kept.{PartsAreBelow, row_in}
 use Rattle.cr_syntax.specs.Spells.{Is}
 use Rattle.cr_syntax.specs.Tables.{rule_of, side_of}
@@ -21,9 +21,11 @@ use Rattle.cr_meaning_declarations.specs.Units.Owned.{AreOfUnit}
 use Rattle.cr_meaning_declarations.proofs.UnitsLemmas.Handing.{laid_at}
 use Rattle.cr_meaning_declarations.proofs.NamesLemmas.Parents.{above_some, part_below}
 use Rattle.cr_meaning_declarations.specs.Declared.Files.{IsUnitOfFile}
-use Rattle.cr_meaning_declarations.proofs.DeclaredLemmas.Nodes.{of_unit, unit_tokens}
+use Rattle.cr_meaning_declarations.proofs.DeclaredLemmas.Nodes.{unit_tokens}
+use Rattle.cr_meaning_declarations.proofs.DeclaredLemmas.Files.{has_unit}
+use Rattle.cr_meaning_declarations.proofs.LastingLemmas.Begun.{one_of}
 use Rattle.cr_meaning_composites.proofs.ComposedLemmas.Told.{item_there}
-use Rattle.cr_meaning_files.proofs.Living.{one_of, above}
+use Rattle.cr_meaning_files.proofs.Living.{above}
 
 -- a node is an item of the unit, or a part of a node that stands in a place
 pub data StandsAt (nodes : List Node) (items : List ℕ) : ℕ → Place → Type 0 where
@@ -100,8 +102,7 @@ unfolding rule_of
 label_words ts parts i j h = (h.0, h.1.0)
 
 module _ (file : List ℕ) (t : Typed) (it : IsUnitOfFile file t) where
-  abbrev u : AreOfUnit t
-  u = of_unit file t it
+  open has_unit file t it use {unit as u}
 
   abbrev tokens : List Lexeme
   tokens = lexemes_of file it.unit.tokens.list.items

@@ -2,7 +2,7 @@
 use Rattle.std.proofs.Common.{◌≡◌, ℕ, zero, suc, ◌*◌, ◌<◌, ◌≤◌, ◌==◌, inl, Bool, true, false, ◌&&◌, ◌||◌, not, nat_lt, List, [], ◌∷◌, Option, None, Some, length, slice_get, slice_index_or, refl, sym, ap, subst, ◌∙◌, arith, mul_assoc, if◌then◌else◌}
 use Rattle.std.proofs.lemmas.Bool.{false≢true, and_from, lt-ltb, ltb-true}
 use Rattle.std.proofs.lemmas.List.{get_or-take}
-use Rattle.std.proofs.lemmas.Option.{slice_get_within}
+use Rattle.std.proofs.lemmas.Option.{slice_get_within, same_Some}
 use Rattle.cr_syntax.specs.declared.ctype.CType.TheVariants.{Int, Void, Struct}
 use Rattle.cr_syntax.specs.declared.node.Kind.{Kind}
 use Rattle.cr_syntax.specs.declared.node.Kind.TheVariants as kind
@@ -13,7 +13,6 @@ use Rattle.cr_syntax.specs.Tables.{rule_of, part_of, side_of}
 use Rattle.cr_syntax_nodes.specs.Nodes.{least}
 use Rattle.cr_syntax_nodes.specs.Laid.{is_among, stands_for, parts_of as alternatives_of}
 use Rattle.cr_syntax_nodes.proofs.Numbers.{some_at}
-use Rattle.cr_syntax_order.specs.Listed.{AreListed}
 use Rattle.cr_scopes_events.specs.declared.declarator.Declarator.{Declarator}
 use Rattle.cr_scopes_events.specs.Values.{before}
 use Rattle.cr_scopes_events.specs.Declarators.{nowhere, in_first, declared_by, declared_if, declarator_of}
@@ -24,9 +23,8 @@ use Rattle.cr_scopes_bindings.specs.Nodes.{named_by, named_if, name_at}
 use Rattle.cr_check_enclosing.specs.declared.context.Place.{Place}
 use Rattle.cr_check_enclosing.specs.declared.context.Place.TheVariants as place
 use Rattle.cr_check_enclosing.specs.declared.context.Around.{Around}
-use Rattle.cr_check_enclosing.specs.Around.{outermost, inside}
+use Rattle.cr_check_enclosing.specs.Around.{outermost}
 use Rattle.cr_check_types.specs.declared.layout.Layout.{Layout}
-use Rattle.cr_check_types.specs.declared.shape.Shape.{Shape}
 use Rattle.cr_check_types.specs.Types.{Qualified, plain, pointer as to, array, type_at}
 use Rattle.cr_check_types.specs.Layouts.{count_of, element_of, single_of, layout_of, nothing as no_layout}
 use Rattle.cr_check_expressions.specs.declared.known.Declared.{Declared}
@@ -36,43 +34,40 @@ use Rattle.cr_check_expressions.specs.Ruled.{is_type}
 use Rattle.cr_check_declarators.specs.declared.words.Specified.{Specified}
 use Rattle.cr_check_declarators.specs.Specifiers.{nothing}
 use Rattle.cr_check_declarators.specs.Declarators.{most_cells}
-use Rattle.cr_check_declarations.specs.declared.tree.Tree.{Tree}
 use Rattle.cr_check_declarations.specs.Before.{specified_in}
 use Rattle.cr_check_declarations.specs.Named.{declares_name, declaration_of, specifiers_in, class_of}
 use Rattle.cr_check_declarations.specs.Faults.{place_of}
 use Rattle.cr_check_initialised.specs.Durations.{is_kept, is_static as is_static_by_words}
 use Rattle.cr_check_initialised.specs.Initialised.{object_of, weighed, is_planned, planned_if, planned_in, planned_by}
-use Rattle.cr_check_unit.specs.declared.typing.Typing.{Typing}
 use Rattle.cr_check_unit.specs.Typing.{cut, before_in, object_in}
 use Rattle.cr_typed.specs.declared.typed.Typed.{Typed}
 use Rattle.cr_typed.specs.declared.typed.Duration.TheVariants as duration
 use Rattle.cr_typed.specs.Typed.{MOST_CELLS}
-use Rattle.cr_typed_columns.specs.declared.checked.CheckedColumns.{CheckedColumns}
 use Rattle.cr_typed_columns.specs.Reading.{entry_of}
 use Rattle.cr_typed_columns.specs.Entities as entities
 use Rattle.cr_typed_columns.specs.Names as names
-use Rattle.cr_typed_unit.specs.Typed.{IsTypedBy}
 use Rattle.cr_meaning_operations.specs.Operations.{kind_if, kind_at, parts_if, parts_at, part_at, is_name, name_by, name_of, is_static_by, is_static}
-use Rattle.cr_meaning_declarations.specs.Units.Owned.{AreOfUnit}
 use Rattle.cr_meaning_declarations.proofs.NamesLemmas.Leaves.{is_named, named_once}
 use Rattle.cr_meaning_declarations.proofs.NamesLemmas.Parents.{IsPartOf, one_parent, is_deriving, IsInside, as_part as inner_part_of, whole_is}
 use Rattle.cr_meaning_typing.specs.Typed.Typing.{has_value}
 use Rattle.cr_meaning_types.specs.Known.Shaped.{IsPart}
-use Rattle.cr_meaning_types.specs.Known.Sighted.{AreSighted}
 use Rattle.cr_meaning_types.proofs.KnownLemmas.Declaring.{HasType, declared_typed}
 use Rattle.cr_meaning_types.specs.Fitting.Bounded.{IsBounded, Declares}
 use Rattle.cr_meaning_types.proofs.FittingLemmas.Names.{early}
 use Rattle.cr_meaning_types.proofs.FittingLemmas.Bounding.{bounded, structures}
 use Rattle.cr_meaning_types.proofs.FittingLemmas.Literals.{literals}
+use Rattle.cr_meaning_types.proofs.KnownLemmas.Reading.{row}
 use Rattle.cr_meaning_composites.proofs.ObjectsLemmas.Declaring.{last_there}
 use Rattle.cr_meaning_references.proofs.TypedefsLemmas.Files.{are_seen}
 use Rattle.cr_meaning_declarations.specs.Declared.Files.{IsUnitOfFile, assembled}
 use Rattle.cr_meaning_declarations.proofs.DeclaredLemmas.Bodies.{listed_at}
-use Rattle.cr_meaning_files.proofs.Grammar.{part_in, Stands, is_of, of_part, row, among_drop}
-use Rattle.cr_meaning_files.proofs.Tables.{is_jump}
-use Rattle.cr_meaning_files.proofs.Tree.{has_part, needed}
-use Rattle.cr_meaning_files.proofs.Filling.{unit}
-use Rattle.cr_meaning_files.proofs.Shaped.{shaped, surrounded}
+use Rattle.cr_meaning_declarations.proofs.DeclaredLemmas.Files.{has_unit}
+use Rattle.cr_meaning_declarations.proofs.DeclaredLemmas.Once.{place_init}
+use Rattle.cr_meaning_references.proofs.TreesLemmas.Grammar.{part_in, Stands, is_of, of_part, among_drop}
+use Rattle.cr_meaning_references.proofs.TreesLemmas.Tree.{has_part, needed}
+use Rattle.cr_meaning_references.proofs.TreesLemmas.Shaped.{surrounded, shaped}
+use Rattle.cr_meaning_references.proofs.TreesLemmas.Expressions.{is_jump}
+use Rattle.cr_meaning_references.proofs.TreesLemmas.Sighted.{sighted}
 use Rattle.cr_meaning_files.proofs.Declared.{types_known}
 
 -- ---- the grammar
@@ -121,15 +116,11 @@ holding_there : (k : Kind) → is_holding k ≡ true → is_jump k ≡ false
 holding_there kind.Break h = absurd (false≢true h)
 holding_there k h = refl
 
-holding_nameless : (k : Kind) → is_holding k ≡ true → is_name k ≡ false
-holding_nameless kind.NameDeclarator h = absurd (false≢true h)
-holding_nameless k h = refl
-
 pub around_holding : (k : Kind) → is_around k ≡ true → is_holding k ≡ true
 around_holding kind.InitDeclarator h = refl
 around_holding k h = h
 
-init_counts : nat_lt 1 (least (side_of kind.InitDeclarator)) ≡ true
+pub init_counts : nat_lt 1 (least (side_of kind.InitDeclarator)) ≡ true
 unfolding rule_of
 init_counts = refl
 
@@ -145,10 +136,6 @@ only_name k h = absurd (false≢true h)
 plainly_named : (k : Kind) (first : ℕ) (name : Option ℕ) → is_naming k ≡ true → named_by k first name ≡ name
 plainly_named kind.Enumerator first name h = absurd (false≢true h)
 plainly_named k first name h = refl
-
-place_init : (k : Kind) (i : ℕ) (a : Around) → k ≡ kind.InitDeclarator → (inside k i a).place ≡ a.place
-unfolding inside
-place_init k i a e = ap (λ x. (inside x i a).place) e
 
 -- ---- durations (6.2.4)
 
@@ -182,44 +169,12 @@ few_cells x few = by (nat_lt most_cells x) refl
     by false e = refl
     by true e = let more = ltb-true most_cells x e in absurd (omega (arith, more, few))
 
-some_same : {A : Type 0} (x y : A) → Some x ≡ Some y → x ≡ y
-some_same x y e = cc
-
 module _ (file : List ℕ) (t : Typed) (it : IsUnitOfFile file t) where
-  abbrev u : AreOfUnit t
-  u = unit file t it
-
-  abbrev made_by : IsTypedBy file it.unit it.names it.checked.checked t
-  made_by = it.checked.by
-
-  abbrev typing : Typing
-  typing = it.checked.checked.whole.typing
-
-  abbrev shapes : List Shape
-  shapes = it.checked.checked.table
-
-  abbrev tree : Tree
-  tree = made_by.tree
-
-  abbrev columns : CheckedColumns
-  columns = made_by.columns
+  open it use {made_by, typing, shapes, tree, columns}
+  open has_unit file t it use {unit as u, nodes_are as same_nodes, tree_nodes, count, order}
 
   abbrev said : ℕ → Specified
   said p = slice_index_or typing.specified p nothing
-
-  same_nodes : it.unit.nodes ≡ t.nodes
-  same_nodes = sym made_by.elaborated.nodes_are
-
-  tree_nodes : tree.nodes.now ≡ t.nodes
-  tree_nodes = made_by.is.whole.tree.nodes ∙ same_nodes
-
-  count : length t.nodes ≡ length it.unit.nodes
-  count = ap length made_by.elaborated.nodes_are
-
-  order : AreListed t.nodes 0 t.items (length t.nodes)
-  order =
-      subst (λ is. AreListed t.nodes 0 is (length t.nodes)) (sym made_by.elaborated.items_are)
-      (subst (λ ns. AreListed ns 0 it.unit.items (length ns)) same_nodes it.listed)
 
   -- ---- the name of a declarator
 
@@ -271,7 +226,7 @@ module _ (file : List ℕ) (t : Typed) (it : IsUnitOfFile file t) where
 
       in_parts : (ps : List ℕ) → slice_get ps 0 ≡ Some b → in_first (before nowhere a (declarator_of t.nodes)) ps ≡ before nowhere a (declarator_of t.nodes) b
       in_parts [] e = let never : None ≡ Some b = e in absurd cc
-      in_parts (x ∷ ps) e = ap (before nowhere a (declarator_of t.nodes)) (some_same x b e)
+      in_parts (x ∷ ps) e = ap (before nowhere a (declarator_of t.nodes)) (same_Some x b e)
 
   pub named_at : (m a : ℕ) (n : Node) → a < m → slice_get t.nodes a ≡ Some n → is_naming n.kind ≡ true → HasName m a
   named_at zero a n low at h = absurd (omega (arith, low))
@@ -318,15 +273,15 @@ module _ (file : List ℕ) (t : Typed) (it : IsUnitOfFile file t) where
     where
       by : (k : Kind) → o.kind ≡ k → named_by k o.first (declarator_of t.nodes w).name ≡ Some x.first → (declarator_of t.nodes w).name ≡ Some x.first
       by kind.Enumerator h g =
-          let first : o.first ≡ x.first = some_same o.first x.first g in
+          let first : o.first ≡ x.first = same_Some o.first x.first g in
           let within = (u.within w o there).0 in
           let same : e ≡ w = named_once t u order e w x o x.first here named refl there (ap is_named h) (omega (arith, first)) (omega (arith, first)) (omega (arith, first, within)) in
-          let node : x ≡ o = some_same x o (sym here ∙ ap (slice_get t.nodes) same ∙ there) in
+          let node : x ≡ o = same_Some x o (sym here ∙ ap (slice_get t.nodes) same ∙ there) in
           let never : kind.NameDeclarator ≡ kind.Enumerator = sym named ∙ ap (λ (z : Node). z.kind) node ∙ h in
           absurd cc
       by k h g = g
 
-  module _ (sighted : AreSighted it.checked.by.tree) (d : ℕ) (n : Node) (at : slice_get t.nodes d ≡ Some n) (is : n.kind ≡ kind.InitDeclarator) (static : is_static t d ≡ true) where
+  module _ (d : ℕ) (n : Node) (at : slice_get t.nodes d ≡ Some n) (is : n.kind ≡ kind.InitDeclarator) (static : is_static t d ≡ true) where
     kind_is : kind_at t d ≡ kind.InitDeclarator
     kind_is = ap kind_if at ∙ is
 
@@ -339,9 +294,6 @@ module _ (file : List ℕ) (t : Typed) (it : IsUnitOfFile file t) where
     f : HasFirst d
     f = first_of d (ap is_holding kind_is)
 
-    abbrev q : ℕ
-    q = f.inner
-
     first_is : slice_get n.parts 0 ≡ Some f.inner
     first_is = sym (ap (λ o. slice_get (parts_if o) 0) at) ∙ f.is
 
@@ -350,9 +302,6 @@ module _ (file : List ℕ) (t : Typed) (it : IsUnitOfFile file t) where
 
     abbrev e : ℕ
     e = name_of t d
-
-    abbrev token : ℕ
-    token = own.0.first
 
     token_few : own.0.first < length it.unit.tokens.list.items
     token_few =
@@ -371,7 +320,7 @@ module _ (file : List ℕ) (t : Typed) (it : IsUnitOfFile file t) where
     alone b inner =
         let above : IsPartOf t u f.inner d = record { parent = n; at = at; place = 0; is = first_is } in
         let same = one_parent t u f.inner b d (inner_part_of t u f.inner b inner) above in
-        let one : inner.outer ≡ n = some_same inner.outer n (sym inner.at ∙ ap (slice_get t.nodes) same ∙ at) in
+        let one : inner.outer ≡ n = same_Some inner.outer n (sym inner.at ∙ ap (slice_get t.nodes) same ∙ at) in
         false≢true (sym (ap (λ (z : Node). is_deriving t u z.kind) one ∙ ap (is_deriving t u) is) ∙ inner.derives)
 
     whole : entities.whole_of it.unit.nodes columns (name_of t d) ≡ Some f.inner
@@ -447,7 +396,7 @@ module _ (file : List ℕ) (t : Typed) (it : IsUnitOfFile file t) where
     typed : has_value (type_at shapes by_words.row) ≡ true
     typed =
         subst (HasType (type_at shapes)) by_words.object
-        (declared_typed tree it.checked.checked.texts shapes typing made_by.is.whole.typing (λ b broken. made_by.sound.constraints b (inl broken)) (shaped file t it) f.inner f.node at_q (types_known file t it sighted f.inner f.node at_q))
+        (declared_typed tree it.checked.checked.texts shapes typing made_by.is.whole.typing (λ b broken. made_by.sound.constraints b (inl broken)) (shaped file t it) f.inner f.node at_q (types_known file t it f.inner f.node at_q))
       where
         at_q : slice_get tree.nodes.now f.inner ≡ Some f.node
         at_q = ap (λ ns. slice_get ns f.inner) tree_nodes ∙ f.at
@@ -455,7 +404,7 @@ module _ (file : List ℕ) (t : Typed) (it : IsUnitOfFile file t) where
     bounds : IsBounded tree.nodes.now typing.layouts (length tree.nodes.now) (type_at shapes by_words.row)
     bounds =
         subst (Declares (λ r. IsBounded tree.nodes.now typing.layouts (length tree.nodes.now) (type_at shapes r))) by_words.object
-        (bounded tree it.checked.checked.texts shapes typing made_by.is.whole.typing (λ b broken. made_by.sound.constraints b (inl broken)) (shaped file t it) (surrounded file t it) sighted (are_seen file t (assembled file t it))
+        (bounded tree it.checked.checked.texts shapes typing made_by.is.whole.typing (λ b broken. made_by.sound.constraints b (inl broken)) (shaped file t it) (surrounded file t it) (sighted file t it) (are_seen file t (assembled file t it))
         (literals file it.unit.tokens.list.items it.unit.nodes it.checked.checked.texts it.tokenizes made_by.is.texts) (length tree.nodes.now) (omega arith) f.inner).declared
 
     structure_few : (node : ℕ) → (slice_index_or (cut d typing).layouts node no_layout).cells ≤ MOST_CELLS

@@ -4,7 +4,6 @@ use Rattle.std.proofs.lemmas.Bool.{and_parts, false≢true, lt-ltb}
 use Rattle.cr_syntax.specs.declared.node.Kind.{Kind}
 use Rattle.cr_syntax.specs.declared.node.Kind.TheVariants as kind
 use Rattle.cr_syntax.specs.Tables.{rule_of, side_of}
-use Rattle.cr_check_types.specs.declared.layout.Layout.{Layout}
 use Rattle.cr_check_types.specs.declared.shape.Shape.{Shape}
 use Rattle.cr_check_types.specs.Types.{Qualified}
 use Rattle.cr_check_expressions.specs.Forms.{form_of}
@@ -12,33 +11,19 @@ use Rattle.cr_check_initialisers.specs.declared.lines.Line.{Line}
 use Rattle.cr_check_initialisers.specs.Known.{Known}
 use Rattle.cr_check_initialisers.specs.Places.{Place, opens}
 use Rattle.cr_check_initialisers.specs.Plans.{Entry, put, excess, Fills, ends, exceeds, braces, whole, elided, loses, IsPlan, by_expression, by_list, entry_of}
-use Rattle.cr_check_initialised.specs.Initialised.{Planned, planned_in, planned_if, is_planned, planned_by, IsFilled}
+use Rattle.cr_check_initialised.specs.Initialised.{Planned, IsFilled}
 use Rattle.cr_typed.specs.declared.typed.Typed.{Typed}
 use Rattle.cr_meaning_operations.specs.Operations.{kind_at, parts_at}
 use Rattle.cr_meaning_typing.specs.Typed.Typing.{is_expression}
 use Rattle.cr_meaning_declarations.specs.Units.Owned.{AreOfUnit}
 use Rattle.cr_meaning_declarations.proofs.NamesLemmas.Parents.{IsPartOf}
 use Rattle.cr_meaning_files.specs.Reached.{is_list, is_listing, lives}
-use Rattle.cr_meaning_files.proofs.Grammar.{part_in, Stands}
+use Rattle.cr_meaning_references.proofs.TreesLemmas.Grammar.{part_in, Stands}
 use Rattle.cr_meaning_files.proofs.Tables.{initialiser_there}
-use Rattle.cr_meaning_files.proofs.Tree.{has_part, as_part}
+use Rattle.cr_meaning_references.proofs.TreesLemmas.Tree.{has_part, as_part}
 use Rattle.cr_meaning_files.proofs.Living.{goes, listing_goes}
 
 -- ---- which nodes have a plan
-
-second_part : (layouts : List Layout) (object : Option Qualified) (o : Option ℕ) (q : Planned) → planned_in layouts object o ≡ Some q → o ≡ Some q.initialiser
-second_part layouts None o q e = absurd (cc e)
-second_part layouts (Some type) None q e = absurd (cc e)
-second_part layouts (Some type) (Some i) q e = by (is_planned layouts type) e
-  where
-    by : (b : Bool) → planned_if b type i ≡ Some q → Some i ≡ Some q.initialiser
-    by true e = let same : record { type = type; initialiser = i } ≡ q = cc e in ap (λ (p : Planned). Some p.initialiser) same
-    by false e = absurd (cc e)
-
-pub of_initialised : (k : Kind) (layouts : List Layout) (object : Option Qualified) (parts : List ℕ) (q : Planned) → planned_by k layouts object parts ≡ Some q
-    → (k ≡ kind.InitDeclarator) × (slice_get parts 1 ≡ Some q.initialiser)
-of_initialised kind.InitDeclarator layouts object parts q e = (refl, second_part layouts object (slice_get parts 1) q e)
-of_initialised k layouts object parts q e = absurd (cc e)
 
 pub lists_at : (k : Known) (b i : ℕ) → opens k b i ≡ true → k.listed i ≡ true
 unfolding opens

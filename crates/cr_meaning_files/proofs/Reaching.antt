@@ -14,9 +14,10 @@ use Rattle.cr_meaning_typing.specs.Sorts.Founded.{is_evaluated, is_followed, Are
 use Rattle.cr_meaning_typing.specs.Sorts.Table.{Judgement}
 use Rattle.cr_meaning_typing.specs.Whole.Statements.{is_statement}
 use Rattle.cr_meaning_files.specs.Reached.{is_item, is_address, is_going, lives, is_run_kind, is_reached}
-use Rattle.cr_meaning_files.proofs.Grammar.{part_in, is_of}
-use Rattle.cr_meaning_files.proofs.Tables.{is_expression_part, expression_there, asked, evaluated, evaluated_part, item_is, counts, counted_there, followed_count, followed_parts, followed_asked, followed_goes, addressed}
-use Rattle.cr_meaning_files.proofs.Tree.{HasPart, has_part, as_part, exactly}
+use Rattle.cr_meaning_references.proofs.TreesLemmas.Grammar.{part_in, is_of}
+use Rattle.cr_meaning_files.proofs.Tables.{evaluated, evaluated_part, item_is, counts, counted_there, followed_count, followed_parts, followed_asked, followed_goes, addressed}
+use Rattle.cr_meaning_references.proofs.TreesLemmas.Tree.{HasPart, has_part, as_part, exactly}
+use Rattle.cr_meaning_references.proofs.TreesLemmas.Expressions.{is_expression_part, expression_there, asked}
 use Rattle.cr_meaning_files.proofs.Living.{goes, going, reached_lives, reach, unpassed, unfollowed, there}
 
 -- expressions and items are run

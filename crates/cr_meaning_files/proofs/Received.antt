@@ -1,15 +1,13 @@
 -- A name that sees a parameter stands in the definition which that is one of, and names its object, which has cells (C11 6.2.1p4, 6.9.1p7, p9).
 use Rattle.std.proofs.Common.{◌≡◌, ℕ, zero, suc, ◌<◌, ◌≤◌, ◌==◌, ◌&&◌, ◌||◌, ◌⊎◌, inl, inr, Bool, true, false, not, List, [], ◌∷◌, None, Some, length, slice_get, slice_index_or, refl, sym, ap, subst, ◌∙◌, arith, if◌then◌else◌}
-use Rattle.std.proofs.lemmas.Bool.{cases_lt, false≢true, and_parts, or_left, or_right, eqb-true, eq-eqb, lt-ltb}
+use Rattle.std.proofs.lemmas.Bool.{cases_lt, false≢true, and_parts, or_right, eqb-true, eq-eqb, lt-ltb}
 use Rattle.std.proofs.lemmas.List.{length-map}
-use Rattle.std.proofs.lemmas.Option.{slice_get_within}
+use Rattle.std.proofs.lemmas.Option.{slice_get_within, same_Some}
 use Rattle.cr_syntax.specs.declared.ctype.CType.{CType}
 use Rattle.cr_syntax.specs.declared.ctype.CType.TheVariants.{Int, Struct, Unknown}
-use Rattle.cr_syntax.specs.declared.node.Kind.{Kind}
 use Rattle.cr_syntax.specs.declared.node.Kind.TheVariants as kind
 use Rattle.cr_syntax.specs.declared.node.Node.{Node}
 use Rattle.cr_syntax.specs.Tables.{rule_of, side_of}
-use Rattle.cr_syntax_order.specs.Listed.{AreListed}
 use Rattle.cr_scopes_events.specs.declared.event.Role.{Role}
 use Rattle.cr_scopes_events.specs.declared.event.Role.TheVariants as role
 use Rattle.cr_scopes_events.specs.declared.event.Event.{Event}
@@ -17,8 +15,7 @@ use Rattle.cr_scopes_events.specs.declared.event.Event.TheVariants as event
 use Rattle.cr_scopes_events.specs.declared.declarator.Derivation.{Derivation}
 use Rattle.cr_scopes_events.specs.declared.declarator.Derivation.TheVariants as derivation
 use Rattle.cr_scopes_events.specs.Declarators.{declarator_of}
-use Rattle.cr_scopes.specs.declared.scope.Space.TheVariants.{Ordinary}
-use Rattle.cr_scopes.specs.Looking.{is_outermost, stands_in, links}
+use Rattle.cr_scopes.specs.Looking.{is_outermost, links}
 use Rattle.cr_scopes.specs.Resolved.{past_of}
 use Rattle.cr_scopes.specs.Spelled.{name_of as spelled_name}
 use Rattle.cr_scopes.specs.Units.{unit_events}
@@ -34,9 +31,9 @@ use Rattle.cr_scopes_visibility.specs.Told.Told.{AreApart}
 use Rattle.cr_scopes_visibility.proofs.ToldLemmas.Walks.{told}
 use Rattle.cr_scopes_visibility.specs.Uses.Uses.{is_use, is_declared, Finds}
 use Rattle.cr_scopes_visibility.specs.Once.Told.{count_of}
+use Rattle.cr_scopes_visibility.proofs.SightLemmas.Reaching.{reaches}
 use Rattle.cr_scopes_linkage.specs.Functions.Functions.{is_other}
 use Rattle.cr_scopes_linkage.proofs.FunctionsLemmas.Shared.{has_entity}
-use Rattle.cr_scopes_visibility.proofs.ParametersLemmas.Walks.{reaches}
 use Rattle.cr_scopes_linkage.specs.Shared.Origins.{is_external}
 use Rattle.cr_check_types.specs.Types.{Qualified, plain, pointer as to, array}
 use Rattle.cr_check_types.specs.Relations.{is_complete_at}
@@ -45,17 +42,14 @@ use Rattle.cr_check_declarators.specs.Declarators.{whole_leaf, whole_object}
 use Rattle.cr_check_signatures.specs.Functions.Outlines.{head}
 use Rattle.cr_typed.specs.declared.typed.Typed.{Typed}
 use Rattle.cr_typed.specs.declared.typed.Duration.TheVariants as duration
-use Rattle.cr_typed_columns.specs.declared.checked.CheckedColumns.{CheckedColumns}
 use Rattle.cr_typed_columns.specs.Reading.{parsed_of}
 use Rattle.cr_typed_columns.specs.Entities as entities
 use Rattle.cr_typed_columns.specs.Names as names
-use Rattle.cr_typed_unit.specs.Typed.{IsTypedBy}
 use Rattle.cr_meaning.specs.declared.run.Limits.{Limits}
 use Rattle.cr_meaning_operations.specs.Shapes.{type_of_node, named_type, shape_of}
 use Rattle.cr_meaning_operations.specs.Operations.{kind_if, kind_at, parts_if, parts_at, part_at, entity_if, entity_of, is_automatic_by, object_shape, program_of}
 use Rattle.cr_meaning_typing.specs.Typed.Placed.{IsObject, IsNamed}
 use Rattle.cr_meaning_typing.specs.Typed.Typing.{has_value}
-use Rattle.cr_meaning_declarations.specs.Units.Owned.{AreOfUnit}
 use Rattle.cr_meaning_declarations.proofs.NamesLemmas.Parents.{IsPartOf}
 use Rattle.cr_meaning_declarations.specs.Declared.Files.{IsUnitOfFile}
 use Rattle.cr_meaning_declarations.proofs.DeclaredLemmas.Once.{automatic_at, alone}
@@ -64,7 +58,7 @@ use Rattle.cr_meaning_composites.proofs.ComposedLemmas.Begun.{first_exists}
 use Rattle.cr_meaning_files.specs.Celled.{SeesParameter}
 use Rattle.cr_meaning_files.proofs.Names as celled
 use Rattle.cr_meaning_files.proofs.Visible.{have}
-use Rattle.cr_meaning_files.proofs.Meant.{before_declared}
+use Rattle.cr_meaning_files.proofs.Meant.{before_declared, declared_named}
 use Rattle.cr_meaning_composites.proofs.MainsLemmas.Defined.{values}
 use Rattle.cr_meaning_references.proofs.ToldLemmas.Orderly.{apart}
 use Rattle.cr_meaning_typing.specs.Judged.Judged.{seen_in}
@@ -73,15 +67,14 @@ use Rattle.cr_meaning_composites.proofs.ParametersLemmas.Names.{token_at, name_t
 use Rattle.cr_meaning_composites.proofs.ParametersLemmas.Objects.{objects}
 use Rattle.cr_meaning_declarations.specs.Sight.Under.{is_under}
 use Rattle.cr_meaning_declarations.proofs.SightLemmas.Under.{directly, deeper}
+use Rattle.cr_meaning_declarations.proofs.DeclaredLemmas.Files.{has_unit}
 use Rattle.cr_meaning_files.specs.Reached.{is_definition, is_reached}
 use Rattle.cr_meaning_files.specs.Local.{is_object_by}
 use Rattle.cr_meaning_files.specs.Structures.{IsWhole, AreMembersWhole}
-use Rattle.cr_meaning_files.proofs.Grammar.{Stands, part_in, is_of}
+use Rattle.cr_meaning_references.proofs.TreesLemmas.Grammar.{Stands, part_in, is_of}
 use Rattle.cr_meaning_files.proofs.Living.{reached_lives}
-use Rattle.cr_meaning_files.proofs.Filling.{unit}
-use Rattle.cr_meaning_files.proofs.Tree.{HasPart, has_part, needed}
+use Rattle.cr_meaning_references.proofs.TreesLemmas.Tree.{HasPart, has_part, needed}
 use Rattle.cr_meaning_files.proofs.Mains.{definition_counts}
-use Rattle.cr_meaning_files.proofs.Shaped.{shaped}
 use Rattle.cr_meaning_files.proofs.Made.{complete_whole, whole_some}
 use Rattle.cr_meaning_files.proofs.Apart.{counted}
 use Rattle.cr_meaning_files.proofs.Planned.{is_naming, is_naming_part, naming_there, HasName, named_at as name_of_declarator}
@@ -89,15 +82,13 @@ use Rattle.cr_meaning_files.proofs.Lists.{visible_seen, unlived_by, stays_inside
 use Rattle.cr_meaning_files.proofs.Outside.{told_once}
 use Rattle.cr_meaning_files.proofs.Mentioned.{refers}
 use Rattle.cr_meaning_files.proofs.Seeing.{InList, in_list, IsReceived, received}
+use Rattle.cr_meaning_files.proofs.Named.{only_definition}
 
 -- ---- lists and numbers
 
-some_same : {A : Type 0} (x y : A) → Some x ≡ Some y → x ≡ y
-some_same x y e = cc
-
 at_place : (xs : List ℕ) (k q : ℕ) → slice_get xs k ≡ Some q → slice_index_or xs k 0 ≡ q
 at_place [] k q e = absurd (cc e)
-at_place (x ∷ xs) zero q e = some_same x q e
+at_place (x ∷ xs) zero q e = same_Some x q e
 at_place (x ∷ xs) (suc k) q e = at_place xs k q e
 
 -- some number passes the test, or none does
@@ -111,20 +102,6 @@ search test (suc m) = by (test m) refl (search test m)
     by false q (inr none) = inr (λ d low. elim (cases_lt d m) [ inl less ↦ none d less | inr le ↦ (let same : m ≡ d = omega (arith, low, le) in ap test (sym same) ∙ q) ])
 
 -- ---- events
-
--- what is declared is named
-declared_named : (token : ℕ) (past : List Event) → is_declared token past ≡ true → is_named token past ≡ true
-declared_named token [] h = h
-declared_named token (event.Name t r ∷ past) h = by (stands_in Ordinary r && (token == t)) refl h (λ g. declared_named token past g)
-  where
-    by : (b : Bool) → (stands_in Ordinary r && (token == t)) ≡ b → (b || is_declared token past) ≡ true → (is_declared token past ≡ true → is_named token past ≡ true)
-        → ((token == t) || is_named token past) ≡ true
-    by true q g rest = or_left (token == t) (is_named token past) (and_parts (stands_in Ordinary r) (token == t) q).1
-    by false q g rest = or_right (token == t) (is_named token past) (rest g)
-declared_named token (event.Opens ∷ past) h = declared_named token past h
-declared_named token (event.Closes ∷ past) h = declared_named token past h
-declared_named token (event.Member t k ∷ past) h = declared_named token past h
-declared_named token (event.Node i ∷ past) h = declared_named token past h
 
 -- what is told without linkage is told as an object, a parameter or an enumerator
 plain_other : (r : Role) → is_plain r ≡ true → is_other r ≡ false
@@ -142,10 +119,6 @@ alone_values token (event.Member t k ∷ past) h = alone_values token past h
 alone_values token (event.Node i ∷ past) h = alone_values token past h
 
 -- ---- definitions
-
-only_definition : (k : Kind) → is_definition k ≡ true → k ≡ kind.FunctionDefinition
-only_definition kind.FunctionDefinition h = refl
-only_definition k h = absurd (false≢true h)
 
 -- the list stands next to a name
 abbrev is_next : ℕ → Derivation → Bool
@@ -184,14 +157,8 @@ module _ (t : Typed) (d : ℕ) where
   taken (array n below) whole a h g same = absurd (cc a)
 
 module _ (file : List ℕ) (t : Typed) (it : IsUnitOfFile file t) where
-  abbrev u : AreOfUnit t
-  u = unit file t it
-
-  abbrev made_by : IsTypedBy file it.unit it.names it.checked.checked t
-  made_by = it.checked.by
-
-  abbrev columns : CheckedColumns
-  columns = made_by.columns
+  open it use {made_by, columns}
+  open has_unit file t it use {unit as u, nodes_are, count, order}
 
   abbrev tokens : ℕ
   tokens = length it.unit.tokens.list.items
@@ -204,17 +171,6 @@ module _ (file : List ℕ) (t : Typed) (it : IsUnitOfFile file t) where
 
   abbrev past : List Event
   past = past_of events (length events)
-
-  nodes_are : it.unit.nodes ≡ t.nodes
-  nodes_are = sym made_by.elaborated.nodes_are
-
-  count : length t.nodes ≡ length it.unit.nodes
-  count = ap length made_by.elaborated.nodes_are
-
-  order : AreListed t.nodes 0 t.items (length t.nodes)
-  order =
-      subst (λ is. AreListed t.nodes 0 is (length t.nodes)) (sym made_by.elaborated.items_are)
-      (subst (λ ns. AreListed ns 0 it.unit.items (length ns)) nodes_are it.listed)
 
   -- the object of an identifier has cells, where its type is one of objects
   some_shape : AreMembersWhole t → (limits : Limits) (e : ℕ) → kind_at t e ≡ kind.NameDeclarator → IsWhole t (named_type t e) → 1 ≤ length ((program_of t limits).shape e)
@@ -348,7 +304,7 @@ module _ (file : List ℕ) (t : Typed) (it : IsUnitOfFile file t) where
     }
 
     its_object : HasObject file t it d s.declarator s.token
-    its_object = objects file t it (shaped file t it) d x s.declarator s.token own
+    its_object = objects file t it d x s.declarator s.token own
 
     -- ---- what the name stands for
 
@@ -358,7 +314,7 @@ module _ (file : List ℕ) (t : Typed) (it : IsUnitOfFile file t) where
     is_alone : IsAlone s.token past
     is_alone =
         let a = automatic_at file t it e (ap is_automatic_by its_object.automatic) in
-        let same : a.node ≡ its_object.own = some_same a.node its_object.own (sym a.at ∙ its_object.at) in
+        let same : a.node ≡ its_object.own = same_Some a.node its_object.own (sym a.at ∙ its_object.at) in
         subst (λ z. IsAlone z past) (ap (λ (m : Node). m.first) same ∙ its_object.first) (alone file t it e a.node a.at a.is a.automatic)
 
     token_few : s.token < tokens
@@ -373,7 +329,7 @@ module _ (file : List ℕ) (t : Typed) (it : IsUnitOfFile file t) where
     named : is_named s.token past ≡ true
     named =
         declared_named s.token past
-        (subst (λ z. is_declared z past ≡ true) (sym (some_same s.token finds.declared (sym s.is ∙ finds.is))) (before_declared finds.declared n.first past finds.before))
+        (subst (λ z. is_declared z past ≡ true) (sym (same_Some s.token finds.declared (sym s.is ∙ finds.is))) (before_declared finds.declared n.first past finds.before))
 
     -- the entity of the parameter
     own_entity : (k : ℕ) × (bound.declared_entity it.names s.token ≡ Some k)

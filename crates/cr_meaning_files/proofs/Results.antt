@@ -1,5 +1,5 @@
 -- What a called function gives is nothing or a scalar (K8, K11).
-use Rattle.std.proofs.Common.{◌≡◌, ℕ, ℤ, inl, inr, Bool, true, false, ◌||◌, not, List, [], ◌∷◌, Option, None, Some, length, take, slice_get, slice_index_or, refl, sym, subst, ap, ◌∙◌, arith, if◌then◌else◌}
+use Rattle.std.proofs.Common.{◌≡◌, ℕ, ℤ, inl, inr, Bool, true, false, ◌||◌, not, List, [], Option, None, Some, length, take, slice_get, slice_index_or, refl, sym, subst, ap, ◌∙◌, arith, if◌then◌else◌}
 use Rattle.std.specs.Option.{is_some}
 use Rattle.std.proofs.lemmas.Bool.{cases_lt, false≢true, or_parts, not-false}
 use Rattle.std.proofs.lemmas.List.{get_or_past, get_or-take, length-take}
@@ -9,7 +9,6 @@ use Rattle.cr_syntax.specs.declared.node.Kind.TheVariants as kind
 use Rattle.cr_syntax.specs.declared.node.Node.{Node}
 use Rattle.cr_syntax_nodes.proofs.Numbers.{some_at}
 use Rattle.cr_check_enclosing.specs.declared.context.Place.{Place}
-use Rattle.cr_check_enclosing.specs.declared.context.Place.TheVariants as place
 use Rattle.cr_check_types.specs.declared.shape.Shape.{Shape}
 use Rattle.cr_check_types.specs.Types.{Qualified, plain, pointer as to, array, type_at}
 use Rattle.cr_check_expressions.specs.declared.least.Break.{Break}
@@ -20,14 +19,11 @@ use Rattle.cr_check_declarators.specs.declared.words.Specified.{Specified}
 use Rattle.cr_check_declarators.specs.declared.words.Class.{Class}
 use Rattle.cr_check_declarators.specs.declared.declarator.Declarator.{Declarator}
 use Rattle.cr_check_declarators.specs.declared.enumerators.Enumerated.{Enumerated}
-use Rattle.cr_check_declarators.specs.declared.linkages.Linkage.{Linkage}
-use Rattle.cr_check_declarators.specs.Specifiers.{is_member}
-use Rattle.cr_check_declarators.specs.Declarators.{may_return, is_declared, function_fault_of, open_fault_of}
-use Rattle.cr_check_declarators.specs.Linkages.{linkage_of, may_be_initialised_of}
+use Rattle.cr_check_declarators.specs.Declarators.{may_return, is_declared, function_fault_of}
 use Rattle.cr_check_declarations.specs.declared.tree.Tree.{Tree}
 use Rattle.cr_check_declarations.specs.Before.{Before, kind_in, first_in, type_in, specified_in}
 use Rattle.cr_check_declarations.specs.Named.{class_of, is_typedef, is_initialised, declares_name, value_by, ordinary_by, ordinary_of, names_ordinary, specifiers_in, constant_by, declared_by as declares_by, declaration_of}
-use Rattle.cr_check_declarations.specs.Faults.{Has, has_at, fault_at, token_if, place_of, name_token, declarator_faults, whole_faults, may_have_initialiser, initialised_faults, faults_in}
+use Rattle.cr_check_declarations.specs.Faults.{Has, has_at, place_of, name_token, whole_faults, may_have_initialiser, initialised_faults, faults_in}
 use Rattle.cr_check_unit.specs.declared.typing.Typing.{Typing}
 use Rattle.cr_check_unit.specs.Typing.{cut, entry_at, before_in, IsRuledIf, IsTyping}
 use Rattle.cr_check_unit.specs.Breaks.{IsNodeBreak, IsBroken}
@@ -36,6 +32,8 @@ use Rattle.cr_meaning_typing.specs.Typed.Typing.{has_value}
 use Rattle.cr_meaning_typing.proofs.TypedLemmas.Worth.{unbroken}
 use Rattle.cr_meaning_types.proofs.KnownLemmas.Declaring.{declarator_holds}
 use Rattle.cr_meaning_typing.specs.Calls.Calls.{IsGiven}
+use Rattle.cr_meaning_initialisation.proofs.CalledLemmas.Fitting.{function_holds}
+use Rattle.cr_check_signatures.proofs.FunctionsLemmas.Linked.{no_initialiser}
 
 -- the result of a function may be returned
 abbrev IsReturned : (ℕ → Qualified) → Declared → Type 0
@@ -76,34 +74,12 @@ by_kind look k nodes said own row e d h = where_said look (declares_name k) (ord
 
 -- ---- the constraints
 
--- K8
-pub function_holds : (own : Has) (b : Before) (nodes : List Node) (i : ℕ) (at : Place) (storage : Option Class) (initialised : Bool) (base : Qualified) (name : ℕ)
-    → HoldsAll (declarator_faults own b nodes i at storage initialised base name) → function_fault_of own.declarator at (is_typedef storage) own.named ≡ false
-function_holds own b nodes i at storage initialised base name h =
-    unbroken 8 name (function_fault_of own.declarator at (is_typedef storage) own.named)
-    (fault_at 14 (open_fault_of own.declarator at storage initialised) ∷ fault_at 41 (token_if (is_member at) own.declarator.volatile) ∷ []) (λ x among. h x (inr (inr (inr among))))
-
 returned : (own : Declarator) (at : Place) (typedef : Bool) (result : Qualified) → is_some own.function ≡ true → function_fault_of own at typedef result ≡ false → may_return result ≡ true
 returned own at typedef result f h =
     let all = sym (ap (λ b. if b then own.misplaced || (not (is_declared at typedef own.empty) || not (may_return result)) else own.misplaced) f) ∙ h in
     let one = or_parts own.misplaced (not (is_declared at typedef own.empty) || not (may_return result)) all in
     let two = or_parts (not (is_declared at typedef own.empty)) (not (may_return result)) one.1 in
     not-false (may_return result) two.1
-
--- K11
-no_function : (at : Place) (typedef : Bool) (linkage : Linkage) → may_be_initialised_of at typedef true linkage ≡ false
-no_function at typedef linkage = by at typedef
-  where
-    by : (at : Place) (typedef : Bool) → may_be_initialised_of at typedef true linkage ≡ false
-    by place.Block true = refl
-    by place.Block false = refl
-    by place.Clause true = refl
-    by place.Clause false = refl
-    by at true = refl
-    by at false = refl
-
-no_initialiser : (at : Place) (storage : Option Class) (function : Bool) → function ≡ true → may_have_initialiser at storage function ≡ false
-no_initialiser at storage function e = ap (may_have_initialiser at storage) e ∙ no_function at (is_typedef storage) (linkage_of at storage true None)
 
 initialised_holds : (own : Declarator) (said : ℕ → Specified) (u : Tree) (i : ℕ) (n : Node) (d : Option ℕ) → HoldsAll (initialised_faults own said u i n d)
     → may_have_initialiser (place_of u i) (class_of (specified_in said (specifiers_in u.nodes.now d)).storage) (is_some own.function) ≡ true

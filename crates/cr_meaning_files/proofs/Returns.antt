@@ -1,8 +1,7 @@
 -- The function around a `return` gives nothing or a scalar (K8, K10).
-use Rattle.std.proofs.Common.{◌≡◌, ℕ, suc, zero, ◌-◌, inl, inr, true, not, List, [], ◌∷◌, Option, None, Some, map, slice_get, slice_index_or, refl, sym, subst, ap, ◌∙◌, arith, if◌then◌else◌}
-use Rattle.std.specs.List.{list_any}
+use Rattle.std.proofs.Common.{◌≡◌, ℕ, ◌-◌, inl, true, List, None, Some, slice_get, slice_index_or, refl, sym, subst, ap, ◌∙◌, arith, if◌then◌else◌}
 use Rattle.std.specs.Option.{is_some}
-use Rattle.std.proofs.lemmas.Bool.{false≢true, not-false}
+use Rattle.std.proofs.lemmas.Bool.{false≢true}
 use Rattle.std.proofs.lemmas.List.{get_or-take}
 use Rattle.cr_syntax.specs.declared.ctype.CType.TheVariants.{Void, Int, Unknown}
 use Rattle.cr_syntax.specs.declared.node.Kind.{Kind}
@@ -10,36 +9,31 @@ use Rattle.cr_syntax.specs.declared.node.Kind.TheVariants as kind
 use Rattle.cr_syntax.specs.declared.node.Node.{Node}
 use Rattle.cr_syntax.specs.Tables.{rule_of, side_of}
 use Rattle.cr_check_types.specs.Types.{Qualified, plain, pointer as to, array, type_at}
-use Rattle.cr_check_expressions.specs.Breaks.{fault}
 use Rattle.cr_check_expressions.specs.Known.{named_row}
-use Rattle.cr_check_declarators.specs.declared.words.Specified.{Specified}
 use Rattle.cr_check_declarators.specs.Declarators.{name_alone, may_return}
 use Rattle.cr_check_declarations.specs.Before as before
-use Rattle.cr_check_declarations.specs.Before.{Before, declarator_in, specified_in}
-use Rattle.cr_check_declarations.specs.Named.{declares_name, is_initialised, is_declaration, declaration_at, declaration_of, above_in, parameter_nodes}
-use Rattle.cr_check_declarations.specs.Faults.{name_or, name_in, list_in, is_nameless, parameter_faults, definition_faults, faults_in, has_at}
-use Rattle.cr_check_unit.specs.declared.typing.Typing.{Typing}
+use Rattle.cr_check_declarations.specs.Before.{declarator_in, specified_in}
+use Rattle.cr_check_declarations.specs.Named.{declares_name, is_initialised, is_declaration, declaration_at, declaration_of, above_in}
+use Rattle.cr_check_declarations.specs.Faults.{faults_in, has_at}
 use Rattle.cr_check_unit.specs.Typing.{cut, entry_at, before_in}
 use Rattle.cr_check_unit.specs.Statements.{result_in}
 use Rattle.cr_check_unit.specs.Statements as statements
-use Rattle.cr_check.specs.declared.checked.Checked.{Checked}
 use Rattle.cr_typed.specs.declared.typed.Typed.{Typed}
-use Rattle.cr_typed_unit.specs.Typed.{IsTypedBy}
 use Rattle.cr_meaning_operations.specs.Operations.{kind_if, kind_at, parts_if, part_at}
 use Rattle.cr_meaning_typing.specs.Typed.Laws.{HoldsAll}
 use Rattle.cr_meaning_typing.specs.Typed.Typing.{has_value}
-use Rattle.cr_meaning_typing.proofs.TypedLemmas.Worth.{unbroken}
-use Rattle.cr_meaning_declarations.specs.Units.Owned.{AreOfUnit}
 use Rattle.cr_meaning_declarations.specs.Declared.Files.{IsUnitOfFile}
+use Rattle.cr_meaning_declarations.proofs.DeclaredLemmas.Files.{has_unit}
 use Rattle.cr_meaning_typing.specs.Statements.Statements.{IsResult}
 use Rattle.cr_meaning_types.specs.Known.Known.{AreKnown}
 use Rattle.cr_meaning_files.specs.Files.{judgement_of}
-use Rattle.cr_meaning_files.proofs.Grammar.{part_in, Stands}
-use Rattle.cr_meaning_files.proofs.Tree.{HasPart, has_part, as_part, needed}
-use Rattle.cr_meaning_files.proofs.Filling.{unit}
+use Rattle.cr_meaning_references.proofs.TreesLemmas.Grammar.{part_in, Stands}
+use Rattle.cr_meaning_references.proofs.TreesLemmas.Tree.{HasPart, has_part, as_part, needed}
 use Rattle.cr_meaning_files.proofs.Laid.{above_at}
 use Rattle.cr_meaning_files.proofs.Mains.{definition_counts}
 use Rattle.cr_meaning_files.proofs.Results.{all, of_kind}
+use Rattle.cr_meaning_composites.proofs.ChainedLemmas.Known.{function_there}
+use Rattle.cr_meaning_initialisation.proofs.CalledLemmas.Fitting.{mapped_at}
 
 -- what may be returned and is known is a result
 result_is : (type : Qualified) → may_return type ≡ true → has_value type ≡ true → IsResult type
@@ -59,34 +53,9 @@ declarator_names kind.ArrayDeclarator h = refl
 declarator_names kind.FunctionDeclarator h = refl
 declarator_names k h = absurd (false≢true h)
 
-mapped_at : (f : Node → ℕ) (nodes : List Node) (i : ℕ) (n : Node) → slice_get nodes i ≡ Some n → slice_index_or (map f nodes) i 0 ≡ f n
-mapped_at f [] i n e = absurd (cc e)
-mapped_at f (x ∷ nodes) zero n e = let same : x ≡ n = cc e in ap f same
-mapped_at f (x ∷ nodes) (suc i) n e = mapped_at f nodes i n e
-
--- K10: a body stands behind a declarator that makes a function
-function_there : (b : Before) (nodes : List Node) (i : ℕ) (said : Specified) (declarator function : Option ℕ) → HoldsAll (definition_faults b nodes i said declarator function) → is_some function ≡ true
-function_there b nodes i said declarator function h =
-    not-false (is_some function)
-    (unbroken 10 (name_or (name_in nodes declarator) (before.first_in nodes declarator)) (not (is_some function))
-    (fault 10 (before.first_in nodes (list_in nodes function) - 1) (list_any (is_nameless nodes) (parameter_nodes nodes (list_in nodes function))) ∷ parameter_faults b nodes i (parameter_nodes nodes (list_in nodes function)))
-    (λ x among. h x (inr (inr among))))
-
 module _ (file : List ℕ) (t : Typed) (it : IsUnitOfFile file t) where
-  abbrev u : AreOfUnit t
-  u = unit file t it
-
-  abbrev checked : Checked
-  checked = it.checked.checked
-
-  abbrev made_by : IsTypedBy file it.unit it.names checked t
-  made_by = it.checked.by
-
-  abbrev typing : Typing
-  typing = checked.whole.typing
-
-  nodes_are : made_by.tree.nodes.now ≡ t.nodes
-  nodes_are = made_by.is.whole.tree.nodes ∙ sym made_by.elaborated.nodes_are
+  open it use {checked.{checked}, made_by, typing}
+  open has_unit file t it use {unit as u, tree_nodes as nodes_are}
 
   here : (i : ℕ) (n : Node) → slice_get t.nodes i ≡ Some n → slice_get made_by.tree.nodes.now i ≡ Some n
   here i n at = ap (λ ns. slice_get ns i) nodes_are ∙ at

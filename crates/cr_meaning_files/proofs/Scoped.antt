@@ -23,15 +23,16 @@ use Rattle.cr_meaning_soundness.specs.Scopes.{IsPart, nodes_of, entered_by, is_p
 use Rattle.cr_meaning_declarations.specs.Units.Owned.{AreOfUnit}
 use Rattle.cr_meaning_declarations.proofs.NamesLemmas.Parents.{IsPartOf}
 use Rattle.cr_meaning_declarations.specs.Declared.Files.{IsUnitOfFile}
+use Rattle.cr_meaning_declarations.proofs.DeclaredLemmas.Files.{has_unit}
 use Rattle.cr_meaning_typing.specs.Whole.Statements.{is_labelled}
 use Rattle.cr_meaning_types.proofs.KnownLemmas.Listing.{behind_first}
 use Rattle.cr_meaning_files.specs.Reached.{is_definition, is_reached}
 use Rattle.cr_meaning_files.specs.Seen.{entered_for, knows, sees}
 use Rattle.cr_meaning_files.proofs.Tables.{switch_counts, switch_body}
-use Rattle.cr_meaning_files.proofs.Grammar.{part_in, Stands}
-use Rattle.cr_meaning_files.proofs.Tree.{has_part, as_part, needed}
+use Rattle.cr_meaning_references.proofs.TreesLemmas.Grammar.{part_in, Stands}
+use Rattle.cr_meaning_references.proofs.TreesLemmas.Tree.{has_part, as_part, needed}
 use Rattle.cr_meaning_files.proofs.Seen.{enters_nothing, listing_enters_nothing, of_reached, as_seen, lasting_seen, climbs, up, from_body}
-use Rattle.cr_meaning_files.proofs.Filling.{unit, put_there}
+use Rattle.cr_meaning_files.proofs.Filling.{put_there}
 use Rattle.cr_meaning_files.proofs.Loops.{from_at, step_there, whole}
 use Rattle.cr_meaning_files.proofs.Standing.{filtered, labels, loop_runs}
 
@@ -95,8 +96,7 @@ pub record IsBodyOf (t : Typed) (u : AreOfUnit t) (parameters : List Parameter) 
   pub objects : (d : ℕ) → IsAmong d (entered_for t definition (kind_at t definition) rest) → IsAmong d (nodes_of parameters)
 
 module _ (file : List ℕ) (t : Typed) (it : IsUnitOfFile file t) where
-  abbrev u : AreOfUnit t
-  u = unit file t it
+  open has_unit file t it use {unit as u}
 
   -- a part of an operation sees no more than the node does, and what that enters
   abbrev pub IsScoped : ℕ → Op → Type 0

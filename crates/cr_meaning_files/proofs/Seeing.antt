@@ -1,7 +1,7 @@
 -- What a name that is a place sees: a declarator of a declaration, or one of a parameter, which stands in a list (C11 6.2.1p4, 6.5.1p2).
 use Rattle.std.proofs.Common.{◌≡◌, ℕ, zero, suc, ◌+◌, ◌<◌, ◌≤◌, ◌&&◌, ◌||◌, ◌⊎◌, inl, inr, Bool, true, false, List, Option, None, Some, length, nat_lt, slice_get, slice_index_or, refl, sym, ap, subst, ◌∙◌, arith, if◌then◌else◌}
 use Rattle.std.proofs.lemmas.Bool.{cases_lt, false≢true}
-use Rattle.std.proofs.lemmas.Option.{slice_get_within}
+use Rattle.std.proofs.lemmas.Option.{slice_get_within, same_Some}
 use Rattle.cr_syntax.specs.declared.node.Kind.{Kind}
 use Rattle.cr_syntax.specs.declared.node.Kind.TheVariants as kind
 use Rattle.cr_syntax.specs.declared.node.Node.{Node}
@@ -9,9 +9,7 @@ use Rattle.cr_syntax.specs.declared.part.Part.{Part}
 use Rattle.cr_syntax.specs.Kept.{row_in}
 use Rattle.cr_syntax.specs.Tables.{rule_of, side_of}
 use Rattle.cr_syntax.specs.Units.{unit_side}
-use Rattle.cr_syntax_order.specs.Listed.{AreListed}
 use Rattle.cr_syntax_nodes.specs.Laid.{stands_for}
-use Rattle.cr_syntax_nodes.specs.Nodes.{most}
 use Rattle.cr_syntax_nodes.proofs.Laid.{laid}
 use Rattle.cr_scopes_events.specs.declared.event.Event.{Event}
 use Rattle.cr_scopes_events.specs.declared.declarator.Declarator.{Declarator as Named}
@@ -34,16 +32,12 @@ use Rattle.cr_check_surroundings.specs.Named.{used_by, used_name, visible_if}
 use Rattle.cr_check_surroundings.specs.Raised.{initialises, raised_by, raised_if, raised, raised_of}
 use Rattle.cr_check_enclosing.specs.Above.{above_of}
 use Rattle.cr_check_expressions.specs.Forms.{form_of}
-use Rattle.cr_check_declarations.specs.declared.tree.Tree.{Tree}
 use Rattle.cr_check_declarations.specs.Before as early
 use Rattle.cr_check_declarations.specs.Named.{is_declarator, listed_by, parameter_nodes}
 use Rattle.cr_check_declarations.specs.Faults.{list_in}
-use Rattle.cr_check_unit.specs.declared.typing.Typing.{Typing}
 use Rattle.cr_typed.specs.declared.typed.Typed.{Typed}
-use Rattle.cr_typed_unit.specs.Typed.{IsTypedBy}
 use Rattle.cr_meaning_operations.specs.Shapes.{type_of_node}
 use Rattle.cr_meaning_operations.specs.Operations.{kind_if, kind_at, parts_if, parts_at}
-use Rattle.cr_meaning_declarations.specs.Units.Owned.{AreOfUnit}
 use Rattle.cr_meaning_declarations.proofs.UnitsLemmas.Rows.{clear_side, clear_laid, clear_at}
 use Rattle.cr_meaning_declarations.proofs.UnitsLemmas.Handing.{laid_at, parts_below}
 use Rattle.cr_meaning_declarations.proofs.NamesLemmas.Walks.{without, clears}
@@ -60,22 +54,23 @@ use Rattle.cr_meaning_files.specs.Celled.{HasSeenType, SeesParameter}
 use Rattle.cr_meaning_files.proofs.Names as celled
 use Rattle.cr_meaning_files.proofs.Types.{typed}
 use Rattle.cr_meaning_composites.specs.Parameters.Laws.{named_at}
+use Rattle.cr_meaning_composites.proofs.ParametersLemmas.Objects.{is_listing}
+use Rattle.cr_meaning_composites.proofs.ParametersLemmas.Parameters.{in_tree}
 use Rattle.cr_meaning_declarations.specs.Sight.Under.{is_under}
 use Rattle.cr_meaning_declarations.proofs.SightLemmas.Under.{directly}
+use Rattle.cr_meaning_declarations.proofs.DeclaredLemmas.Files.{has_unit}
+use Rattle.cr_meaning_declarations.proofs.LastingLemmas.Begun.{one_of}
 use Rattle.cr_meaning_files.specs.Reached.{is_item}
 use Rattle.cr_meaning_files.specs.Laws.{IsDeclaredAt}
 use Rattle.cr_meaning_files.proofs.Loops.{whole}
-use Rattle.cr_meaning_files.proofs.Living.{one_of}
-use Rattle.cr_meaning_files.proofs.Filling.{unit}
-use Rattle.cr_meaning_files.proofs.Tree.{HasPart, has_part, at_most}
-use Rattle.cr_meaning_files.proofs.Shaped.{shaped}
+use Rattle.cr_meaning_references.proofs.TreesLemmas.Tree.{HasPart, has_part, at_most}
+use Rattle.cr_meaning_references.proofs.TreesLemmas.Shaped.{shaped}
 use Rattle.cr_meaning_files.proofs.Planned.{is_naming}
 use Rattle.cr_meaning_files.proofs.Lists.{list_counts}
+use Rattle.cr_meaning_files.proofs.Whole.{parameter_counts as parameter_most}
+use Rattle.cr_meaning_files.proofs.Named.{is_for, only_for}
 
 -- ---- kinds
-
-some_same : {A : Type 0} (x y : A) → Some x ≡ Some y → x ≡ y
-some_same x y e = cc
 
 parameter_only : (k : Kind) → is_parameter k ≡ true → k ≡ kind.Parameter
 parameter_only kind.Parameter h = refl
@@ -84,11 +79,6 @@ parameter_only k h = absurd (false≢true h)
 only_parameter : (k : Kind) → is_parameter k ≡ true → (k ≡ kind.Parameter) ⊎ (k ≡ kind.Parameter)
 only_parameter kind.Parameter h = inl refl
 only_parameter k h = absurd (false≢true h)
-
-abbrev is_listing : Kind → Bool
-is_listing kind.Parameters = true
-is_listing kind.VariadicParameters = true
-is_listing k = false
 
 only_listing : (k : Kind) → is_listing k ≡ true → (k ≡ kind.Parameters) ⊎ (k ≡ kind.VariadicParameters)
 only_listing kind.Parameters h = inl refl
@@ -102,14 +92,6 @@ is_function_declarator k = false
 only_function_declarator : (k : Kind) → is_function_declarator k ≡ true → k ≡ kind.FunctionDeclarator
 only_function_declarator kind.FunctionDeclarator h = refl
 only_function_declarator k h = absurd (false≢true h)
-
-abbrev is_for : Kind → Bool
-is_for kind.For = true
-is_for k = false
-
-only_for : (k : Kind) → is_for k ≡ true → k ≡ kind.For
-only_for kind.For h = refl
-only_for k h = absurd (false≢true h)
 
 -- a parameter stands in a list, or behind its declarator alone
 no_parameter : (p : Part) (k : Kind) → without kind.Parameter kind.Parameter p ≡ true → stands_for p k ≡ true → is_parameter k ≡ false
@@ -173,45 +155,15 @@ naming nodes i token n at e =
     names_by_kind n.kind (before nowhere i (declarator_of nodes)) i n token
     (ap (λ o. (declared_if o (before nowhere i (declarator_of nodes)) i).name) (sym at) ∙ ap (λ (d : Named). d.name) (sym (declarator_ruled nodes i)) ∙ e)
 
-parameter_most : most (side_of kind.Parameter) ≡ Some 2
-unfolding rule_of
-parameter_most = refl
-
 module _ (file : List ℕ) (t : Typed) (it : IsUnitOfFile file t) where
-  abbrev u : AreOfUnit t
-  u = unit file t it
-
-  abbrev made_by : IsTypedBy file it.unit it.names it.checked.checked t
-  made_by = it.checked.by
-
-  abbrev typing : Typing
-  typing = it.checked.checked.whole.typing
-
-  abbrev tree : Tree
-  tree = made_by.tree
+  open it use {made_by, typing, tree}
+  open has_unit file t it use {unit as u, nodes_are, tree_nodes, order}
 
   abbrev name : ℕ → ℕ
   name = spelled_name file it.unit.tokens.list.items
 
   abbrev past : List Event
   past = past_of (unit_events it.unit) (length (unit_events it.unit))
-
-  nodes_are : it.unit.nodes ≡ t.nodes
-  nodes_are = sym made_by.elaborated.nodes_are
-
-  tree_nodes : tree.nodes.now ≡ t.nodes
-  tree_nodes = made_by.is.whole.tree.nodes ∙ nodes_are
-
-  order : AreListed t.nodes 0 t.items (length t.nodes)
-  order =
-      subst (λ is. AreListed t.nodes 0 is (length t.nodes)) (sym made_by.elaborated.items_are)
-      (subst (λ ns. AreListed ns 0 it.unit.items (length ns)) nodes_are it.listed)
-
-  tokens_are : length t.tokens ≡ length it.unit.tokens.list.items
-  tokens_are = ap length made_by.elaborated.tokens_are
-
-  in_tree : (i : ℕ) (n : Node) → slice_get t.nodes i ≡ Some n → slice_get tree.nodes.now i ≡ Some n
-  in_tree i n at = ap (λ ns. slice_get ns i) tree_nodes ∙ at
 
   in_unit : (i : ℕ) (n : Node) → slice_get it.unit.nodes i ≡ Some n → slice_get t.nodes i ≡ Some n
   in_unit i n at = ap (λ ns. slice_get ns i) (sym nodes_are) ∙ at
@@ -253,7 +205,7 @@ module _ (file : List ℕ) (t : Typed) (it : IsUnitOfFile file t) where
     where
       by : (k : ℕ) → slice_get h.parent.parts k ≡ Some y → slice_get (parts_at t l) 1 ≡ Some y
       by zero g =
-          let p = (shaped file t it).parts l h.parent (in_tree l h.parent h.at) 0 y g in
+          let p = (shaped file t it).parts l h.parent (in_tree file t it l h.parent h.at) 0 y g in
           let own : kind_at t y ≡ p.own.kind = ap kind_if (ap (λ ns. slice_get ns y) (sym tree_nodes) ∙ p.at) in
           absurd (false≢true (sym plain ∙ ap is_declarator own ∙ sym (ap (λ c. fits c 0 p.own.kind) (sym (ap kind_if h.at) ∙ is)) ∙ p.fits))
       by (suc zero) g = ap (λ o. slice_get (parts_if o) 1) h.at ∙ g
@@ -357,7 +309,7 @@ module _ (file : List ℕ) (t : Typed) (it : IsUnitOfFile file t) where
         outer = p;
         node = x;
         at = there;
-        initialises = some_same x.kind kind.InitDeclarator (sym (ap scripts.kind_if there) ∙ k);
+        initialises = same_Some x.kind kind.InitDeclarator (sym (ap scripts.kind_if there) ∙ k);
         is = sym (ap (λ o. slice_get (scripts.parts_if o) 0) there) ∙ f;
         held = own;
       }
@@ -389,7 +341,7 @@ module _ (file : List ℕ) (t : Typed) (it : IsUnitOfFile file t) where
 
     -- the token that is visible is the one that it finds
     visible_is : (token : ℕ) → slice_index_or it.checked.checked.surroundings.bindings.visible n.first None ≡ Some token → token ≡ finds.declared
-    visible_is token e = some_same token finds.declared (sym e ∙ celled.column file t it i n at is few)
+    visible_is token e = same_Some token finds.declared (sym e ∙ celled.column file t it i n at is few)
 
     pub visible_there : (token : ℕ) → slice_index_or it.checked.checked.surroundings.bindings.visible n.first None ≡ Some token → visible name past n.first ≡ Some token
     visible_there token e = finds.is ∙ ap Some (sym (visible_is token e))
@@ -421,7 +373,7 @@ module _ (file : List ℕ) (t : Typed) (it : IsUnitOfFile file t) where
       seen = typed file t it i n at is lvalue
 
       seen_is : seen.declarator ≡ raised it.unit.nodes it.checked.checked.surroundings.above v i
-      seen_is = some_same seen.declarator (raised it.unit.nodes it.checked.checked.surroundings.above v i) (sym seen.sees ∙ sees_it)
+      seen_is = same_Some seen.declarator (raised it.unit.nodes it.checked.checked.surroundings.above v i) (sym seen.sees ∙ sees_it)
 
       -- the name has the type of that declarator, or of the same with its initialiser
       abbrev HasDeclaredType : ℕ → Type 0
@@ -480,7 +432,7 @@ module _ (file : List ℕ) (t : Typed) (it : IsUnitOfFile file t) where
                 absurd (omega (arith, few_parts, within))
 
         part : IsPart tree s.parameter.node s.parameter.own 1 s.parameter.part
-        part = (shaped file t it).parts s.parameter.node s.parameter.own (in_tree s.parameter.node s.parameter.own s.parameter.at) 1 s.parameter.part second
+        part = (shaped file t it).parts s.parameter.node s.parameter.own (in_tree file t it s.parameter.node s.parameter.own s.parameter.at) 1 s.parameter.part second
 
         -- without an initialiser
         plain : s.parameter.part ≡ q
@@ -488,7 +440,7 @@ module _ (file : List ℕ) (t : Typed) (it : IsUnitOfFile file t) where
           | inl same ↦ same
           | inr init ↦
               (let k : part.own.kind ≡ kind.InitDeclarator =
-              some_same part.own.kind kind.InitDeclarator (sym (ap scripts.kind_if (ap (λ ns. slice_get ns s.parameter.part) (sym tree_nodes) ∙ part.at)) ∙ init.0) in
+              same_Some part.own.kind kind.InitDeclarator (sym (ap scripts.kind_if (ap (λ ns. slice_get ns s.parameter.part) (sym tree_nodes) ∙ part.at)) ∙ init.0) in
               absurd (false≢true (sym (ap is_declarator k) ∙ sym (ap (λ c. fits c 1 part.own.kind) parameter_kind) ∙ part.fits)))
         ]
 
@@ -505,7 +457,7 @@ module _ (file : List ℕ) (t : Typed) (it : IsUnitOfFile file t) where
             by (p, (inl same, e)) = e ∙ ap (λ x. named_at file t it x) same
             by (p, (inr (m, (m_at, (initialised, first))), e)) =
                 let one = one_parent t u q p s.parameter.node (record { parent = m; at = m_at; place = 0; is = first }) part_q in
-                let node : m ≡ s.parameter.own = some_same m s.parameter.own (sym m_at ∙ ap (slice_get t.nodes) one ∙ s.parameter.at) in
+                let node : m ≡ s.parameter.own = same_Some m s.parameter.own (sym m_at ∙ ap (slice_get t.nodes) one ∙ s.parameter.at) in
                 let never : kind.InitDeclarator ≡ kind.Parameter = sym initialised ∙ ap (λ (x : Node). x.kind) node ∙ parameter_kind in
                 absurd (cc never)
 

@@ -8,9 +8,10 @@ use Rattle.cr_meaning_operations.specs.Operations.{kind_at, is_lasting, is_stati
 use Rattle.cr_meaning_soundness.specs.Sorts.{IsAmong}
 use Rattle.cr_meaning_declarations.specs.Units.Owned.{AreOfUnit}
 use Rattle.cr_meaning_declarations.proofs.NamesLemmas.Parents.{IsPartOf, above_is}
+use Rattle.cr_meaning_declarations.proofs.LastingLemmas.Begun.{one_of}
 use Rattle.cr_meaning_files.specs.Reached.{is_definition, is_listing, is_reached}
 use Rattle.cr_meaning_files.specs.Seen.{entered_for, is_one_of, finds_above, finds_by, finds, knows, sees}
-use Rattle.cr_meaning_files.proofs.Living.{one_of, above, above_low}
+use Rattle.cr_meaning_files.proofs.Living.{above, above_low}
 
 is_among : (d : ℕ) (objects : List ℕ) → is_one_of objects d ≡ true → IsAmong d objects
 is_among d [] e = absurd (false≢true e)

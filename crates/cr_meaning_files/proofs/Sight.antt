@@ -16,7 +16,7 @@ use Rattle.cr_meaning_soundness.specs.Scopes.{nodes_of, entered_by, is_open, Are
 use Rattle.cr_meaning_operations.specs.Operations.{kind_if, kind_at, parts_if, parts_at, part_at, name_of, entity_of, is_case, is_declaration, is_automatic, declarators_of, parameter_of, clause_objects, nodes_from, is_lasting, is_static_initialiser, op_of, program_of}
 use Rattle.cr_check_expressions.specs.Forms.{form_of}
 use Rattle.cr_meaning_typing.specs.Typed.Typing.{is_expression}
-use Rattle.cr_meaning_declarations.specs.Units.Owned.{declared_by, is_declared, declares, owns, AreOfUnit, AreDeclaredOnce}
+use Rattle.cr_meaning_declarations.specs.Units.Owned.{declared_by, is_declared, declares, owns, AreDeclaredOnce}
 use Rattle.cr_meaning_declarations.proofs.UnitsLemmas.Ops.{IsOp, of_node, of_whole, is_op}
 use Rattle.cr_meaning_declarations.proofs.UnitsLemmas.Rows.{clear_side, clear_laid, clear_at}
 use Rattle.cr_meaning_declarations.proofs.UnitsLemmas.Handing.{is_declarator as has_declarator, without_declarations, no_declarations, laid_at, parts_below, owning}
@@ -24,17 +24,18 @@ use Rattle.cr_meaning_declarations.proofs.UnitsLemmas.Blocks.{item_objects}
 use Rattle.cr_meaning_declarations.proofs.NamesLemmas.Parents.{IsPartOf, above_some}
 use Rattle.cr_meaning_declarations.specs.Declared.Files.{IsUnitOfFile}
 use Rattle.cr_meaning_declarations.proofs.DeclaredLemmas.Once as declared
+use Rattle.cr_meaning_declarations.proofs.DeclaredLemmas.Files.{has_unit}
+use Rattle.cr_meaning_declarations.proofs.LastingLemmas.Begun.{one_of}
 use Rattle.cr_meaning_typing.specs.Whole.Statements.{is_declarator}
 use Rattle.cr_meaning_typing.specs.Whole.Whole.{AreSeen}
 use Rattle.cr_meaning_typing.proofs.WholeLemmas.Whole.{is_initialiser}
 use Rattle.cr_meaning_files.specs.Reached.{is_item, is_declaring, is_list, is_listing, is_definition, is_block, is_going, goes_on, lives_below, lives, is_reached}
 use Rattle.cr_meaning_files.specs.Seen.{entered_for, finds, knows, sees}
-use Rattle.cr_meaning_files.proofs.Grammar.{part_in, Stands}
+use Rattle.cr_meaning_references.proofs.TreesLemmas.Grammar.{part_in, Stands}
 use Rattle.cr_meaning_files.proofs.Tables.{declaring_apart}
-use Rattle.cr_meaning_files.proofs.Tree.{has_part, as_part}
-use Rattle.cr_meaning_files.proofs.Living.{one_of, above, lives_is, reached_lives, there}
+use Rattle.cr_meaning_references.proofs.TreesLemmas.Tree.{has_part, as_part}
+use Rattle.cr_meaning_files.proofs.Living.{above, lives_is, reached_lives, there}
 use Rattle.cr_meaning_files.proofs.Seen.{of_reached, as_seen, lasting_seen, from_body, at_start, finds_entered, finds_outside}
-use Rattle.cr_meaning_files.proofs.Filling.{unit}
 use Rattle.cr_meaning_files.proofs.Loops.{whole}
 use Rattle.cr_meaning_files.proofs.Standing.{other_one}
 use Rattle.cr_meaning_files.proofs.Mains.{initialisers_run, names_here, main_defined, body_at, body_kind, body_runs}
@@ -154,8 +155,7 @@ from_declaring t part k own d h =
     ]
 
 module _ (file : List ℕ) (t : Typed) (it : IsUnitOfFile file t) where
-  abbrev u : AreOfUnit t
-  u = unit file t it
+  open has_unit file t it use {unit as u}
 
   once : AreDeclaredOnce t
   once = declared.once file t it

@@ -4,37 +4,27 @@ use Rattle.cr_syntax.specs.declared.ctype.CType.TheVariants.{Int, Struct}
 use Rattle.cr_check_types.specs.declared.layout.Layout.{Layout}
 use Rattle.cr_check_types.specs.Types.{Qualified, plain, pointer as to, array, type_at}
 use Rattle.cr_check_types.specs.Layouts.{count_of, element_of, single_of, nothing}
-use Rattle.cr_check_unit.specs.declared.typing.Typing.{Typing}
-use Rattle.cr_check.specs.declared.checked.Checked.{Checked}
 use Rattle.cr_typed.specs.declared.typed.Typed.{Typed}
 use Rattle.cr_typed.specs.Typed.{MOST_CELLS}
-use Rattle.cr_typed_unit.specs.Typed.{IsTypedBy}
 use Rattle.cr_meaning_operations.specs.Shapes.{cells_of}
 use Rattle.cr_meaning_declarations.specs.Declared.Files.{IsUnitOfFile, assembled}
-use Rattle.cr_meaning_types.specs.Known.Sighted.{AreSighted}
 use Rattle.cr_meaning_types.specs.Fitting.Bounded.{IsBounded, IsBoundedIn}
 use Rattle.cr_meaning_types.proofs.FittingLemmas.Bounding.{bounded, structures}
 use Rattle.cr_meaning_types.proofs.FittingLemmas.Literals.{literals}
 use Rattle.cr_meaning_references.proofs.TypedefsLemmas.Files.{are_seen}
 use Rattle.cr_meaning_files.proofs.Made.{layouts_at}
-use Rattle.cr_meaning_files.proofs.Shaped.{shaped, surrounded}
+use Rattle.cr_meaning_references.proofs.TreesLemmas.Shaped.{surrounded, shaped}
+use Rattle.cr_meaning_references.proofs.TreesLemmas.Sighted.{sighted}
 
-module _ (file : List ℕ) (t : Typed) (it : IsUnitOfFile file t) (sighted : AreSighted it.checked.by.tree) where
-  abbrev checked : Checked
-  checked = it.checked.checked
-
-  abbrev made_by : IsTypedBy file it.unit it.names checked t
-  made_by = it.checked.by
-
-  abbrev typing : Typing
-  typing = checked.whole.typing
+module _ (file : List ℕ) (t : Typed) (it : IsUnitOfFile file t) where
+  open it use {checked.{checked}, made_by, typing}
 
   abbrev last : ℕ
   last = length made_by.tree.nodes.now
 
   pub bounds : (i : ℕ) → IsBoundedIn made_by.tree.nodes.now typing.layouts checked.table last typing i
   bounds i =
-      bounded made_by.tree checked.texts checked.table typing made_by.is.whole.typing (λ b broken. made_by.sound.constraints b (inl broken)) (shaped file t it) (surrounded file t it) sighted (are_seen file t (assembled file t it))
+      bounded made_by.tree checked.texts checked.table typing made_by.is.whole.typing (λ b broken. made_by.sound.constraints b (inl broken)) (shaped file t it) (surrounded file t it) (sighted file t it) (are_seen file t (assembled file t it))
       (literals file it.unit.tokens.list.items it.unit.nodes checked.texts it.tokenizes made_by.is.texts) last (omega arith) i
 
   structure_few : (node : ℕ) → (slice_index_or t.layouts node nothing).cells ≤ MOST_CELLS

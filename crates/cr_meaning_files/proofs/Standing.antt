@@ -13,27 +13,28 @@ use Rattle.cr_typed.specs.declared.typed.Typed.{Typed}
 use Rattle.cr_typed.specs.declared.typed.Put.{Put}
 use Rattle.cr_meaning_operations.specs.Operations.{kind_if, kind_at, parts_at, part_at, is_case, is_declaration, is_automatic, declarators_of, labelled, first_at, part_from, clause_end, clause_objects, unless_body, last_part}
 use Rattle.cr_meaning_typing.specs.Typed.Typing.{is_expression}
-use Rattle.cr_meaning_declarations.specs.Units.Owned.{AreOfUnit}
 use Rattle.cr_meaning_declarations.specs.Declared.Files.{IsUnitOfFile}
+use Rattle.cr_meaning_declarations.proofs.DeclaredLemmas.Files.{has_unit}
 use Rattle.cr_meaning_typing.specs.Sorts.Founded.{IsOperand}
 use Rattle.cr_meaning_typing.specs.Whole.Statements.{is_statement, has_condition, has_inner, is_labelled, IsInner, IsFor, IsSwitch, AreStatementsLaid}
 use Rattle.cr_meaning_types.proofs.KnownLemmas.Listing.{behind_first}
 use Rattle.cr_meaning_files.specs.Reached.{is_item, is_list, is_listing, is_going, is_address, goes_on, lives, is_reached}
 use Rattle.cr_meaning_files.specs.Files.{judgement_of}
-use Rattle.cr_meaning_files.proofs.Grammar.{part_in, Stands, is_of}
-use Rattle.cr_meaning_files.proofs.Tables.{is_item_part, is_declaring_part, expression_there, item_there, declaring_there, condition, inner, inner_kind, item_is, item_apart, declaring_is, going_lists_nothing, listing_apart, branch_counts, while_counts, do_counts, return_counts, statement_counts, switch_counts, label_counts, switch_body, block_items, declared_parts}
-use Rattle.cr_meaning_files.proofs.Tree.{HasPart, has_part, as_part, counted_by, exactly, at_most, needed}
+use Rattle.cr_meaning_references.proofs.TreesLemmas.Grammar.{part_in, Stands, is_of}
+use Rattle.cr_meaning_files.proofs.Tables.{is_item_part, is_declaring_part, item_there, declaring_there, condition, inner, inner_kind, item_is, item_apart, declaring_is, going_lists_nothing, listing_apart, branch_counts, while_counts, do_counts, return_counts, statement_counts, switch_counts, label_counts, switch_body, block_items, declared_parts}
+use Rattle.cr_meaning_references.proofs.TreesLemmas.Tree.{HasPart, has_part, as_part, counted_by, exactly, at_most, needed}
+use Rattle.cr_meaning_references.proofs.TreesLemmas.Expressions.{expression_there}
 use Rattle.cr_meaning_files.proofs.Living.{goes, item_goes, case_goes, declaration_goes, reached_lives, reached_kind, reach, unpassed, unfollowed}
 use Rattle.cr_meaning_files.proofs.Reaching.{expression_runs, item_runs, expression_reached}
 use Rattle.cr_meaning_files.proofs.Loops.{from_at, step_there, IsWhole, whole}
-use Rattle.cr_meaning_files.proofs.Filling.{unit, put_there}
+use Rattle.cr_meaning_files.proofs.Filling.{put_there}
 use Rattle.cr_meaning_files.proofs.Laid.{around_at, operand, operand_at}
 
 pub other_one : (a b : Bool) → (a || b) ≡ true → a ≡ false → b ≡ true
 other_one true b h e = absurd (false≢true (sym e))
 other_one false b h e = h
 
-this_one : (a b : Bool) → (a || b) ≡ true → b ≡ false → a ≡ true
+pub this_one : (a b : Bool) → (a || b) ≡ true → b ≡ false → a ≡ true
 this_one true b h e = refl
 this_one false b h e = absurd (false≢true (sym e ∙ h))
 
@@ -57,8 +58,7 @@ filtered test (x ∷ items) k item e = by (test x) refl k e (λ m f. later (filt
     by false q k f rest = rest k f
 
 module _ (file : List ℕ) (t : Typed) (it : IsUnitOfFile file t) where
-  abbrev u : AreOfUnit t
-  u = unit file t it
+  open has_unit file t it use {unit as u}
 
   -- ---- a statement within another
 

@@ -16,18 +16,15 @@ use Rattle.cr_meaning.specs.declared.run.Limits.{Limits}
 use Rattle.cr_meaning_operations.specs.Shapes.{form_by}
 use Rattle.cr_meaning_operations.specs.Operations.{kind_if, kind_at}
 use Rattle.cr_meaning_typing.specs.Sorts.Table.{result_of}
-use Rattle.cr_meaning_declarations.specs.Units.Owned.{AreOfUnit}
 use Rattle.cr_meaning_declarations.proofs.NamesLemmas.Parents.{above_some}
 use Rattle.cr_meaning_declarations.specs.Declared.Files.{IsUnitOfFile}
-use Rattle.cr_meaning_types.specs.Known.Sighted.{AreSighted}
+use Rattle.cr_meaning_declarations.proofs.DeclaredLemmas.Files.{has_unit}
 use Rattle.cr_meaning_composites.proofs.ComposedLemmas.Told.{item_there}
 use Rattle.cr_meaning_composites.specs.Mains.Laws.{IsMain}
 use Rattle.cr_meaning_composites.proofs.MainsLemmas.Mains.{declared_so}
 use Rattle.cr_meaning_files.specs.Reached.{is_definition}
 use Rattle.cr_meaning_files.specs.Files.{judgement_of}
-use Rattle.cr_meaning_files.proofs.Filling.{unit}
 use Rattle.cr_meaning_files.proofs.Mains.{main_defined}
-use Rattle.cr_meaning_files.proofs.Shaped.{shaped}
 use Rattle.cr_meaning_files.proofs.Returns.{gives_is}
 use Rattle.cr_meaning_files.proofs.Named.{plain_part}
 
@@ -42,8 +39,7 @@ int_form t (pointer c v below) h = absurd (false≢true h)
 int_form t (array n below) h = absurd (false≢true h)
 
 module _ (file : List ℕ) (t : Typed) (it : IsUnitOfFile file t) where
-  abbrev u : AreOfUnit t
-  u = unit file t it
+  open has_unit file t it use {unit as u}
 
   record IsThere : Type 0 where
     node : Node
@@ -68,8 +64,8 @@ module _ (file : List ℕ) (t : Typed) (it : IsUnitOfFile file t) where
   item : (k : ℕ) × (slice_get t.items k ≡ Some t.main)
   item = definition_item t.main there.node there.at there.is
 
-  pub main_has : AreSighted it.checked.by.tree → (limits : Limits) → IsMain file t it limits
-  main_has sighted limits = declared_so file t it limits (shaped file t it) sighted item.0 item.1
+  pub main_has : (limits : Limits) → IsMain file t it limits
+  main_has limits = declared_so file t it limits item.0 item.1
 
-  pub gives : AreSighted it.checked.by.tree → Limits → result_of t (judgement_of file t it) (Some t.main) ≡ form.Number IntegerKind
-  gives sighted limits = ap (form_by t 0) (gives_is file t it t.main there.node there.at there.is) ∙ int_form t _ (main_has sighted limits).gives
+  pub gives : Limits → result_of t (judgement_of file t it) (Some t.main) ≡ form.Number IntegerKind
+  gives limits = ap (form_by t 0) (gives_is file t it t.main there.node there.at there.is) ∙ int_form t _ (main_has limits).gives

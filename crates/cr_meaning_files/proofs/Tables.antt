@@ -1,13 +1,13 @@
 -- Tables of kinds: which parts of a node are expressions, which statements, and how many there are (C11 6.5, 6.8).
-use Rattle.std.proofs.Common.{◌≡◌, ℕ, zero, suc, ◌<◌, ◌==◌, Bool, true, false, ◌&&◌, ◌||◌, not, List, Option, None, Some, nat_lt, refl, sym, ap, ◌∙◌, arith}
-use Rattle.std.proofs.lemmas.Bool.{and_parts, false≢true, eqb-true, ltb-true}
+use Rattle.std.proofs.Common.{◌≡◌, ℕ, zero, suc, ◌<◌, ◌==◌, Bool, true, false, ◌&&◌, ◌||◌, not, List, Option, None, Some, refl, sym, ap, ◌∙◌, arith}
+use Rattle.std.proofs.lemmas.Bool.{and_parts, false≢true, eqb-true}
 use Rattle.cr_syntax.specs.declared.node.Kind.{Kind}
 use Rattle.cr_syntax.specs.declared.node.Kind.TheVariants as kind
 use Rattle.cr_syntax.specs.declared.part.Part.{Part}
 use Rattle.cr_syntax.specs.declared.part.Part.TheVariants as part
 use Rattle.cr_syntax.specs.Tables.{rule_of, part_of, side_of}
 use Rattle.cr_syntax_nodes.specs.Nodes.{least, most}
-use Rattle.cr_syntax_nodes.specs.Laid.{expressions, is_among, stands_for, parts_of as alternatives_of}
+use Rattle.cr_syntax_nodes.specs.Laid.{is_among, stands_for, parts_of as alternatives_of}
 use Rattle.cr_check_expressions.specs.Forms.{form_of}
 use Rattle.cr_typed.specs.declared.typed.Typed.{Typed}
 use Rattle.cr_meaning_operations.specs.Operations.{is_case, is_static_initialiser}
@@ -15,43 +15,9 @@ use Rattle.cr_meaning_typing.specs.Typed.Typing.{is_asked, is_expression}
 use Rattle.cr_meaning_typing.specs.Sorts.Founded.{parts_of, is_evaluated, is_followed}
 use Rattle.cr_meaning_typing.specs.Whole.Statements.{is_statement, has_condition, has_inner}
 use Rattle.cr_meaning_files.specs.Reached.{is_item, is_declaring, is_list, is_listing, is_block, is_going, is_address}
-use Rattle.cr_meaning_files.proofs.Grammar.{part_in, Stands, is_of, of_part, row, among_drop}
-
--- ---- parts for which expressions stand
-
-abbrev pub is_expression_part : Part → Bool
-is_expression_part p = is_among p expressions
-
-expression_kinds : (k : Kind) → (not (is_among (part_of k) expressions) || is_expression (form_of k)) ≡ true
-unfolding rule_of
-expression_kinds kind.Comma = refl
-expression_kinds k = refl
-
-within_expressions : (p q : Part) → is_expression_part p ≡ true → is_among q (alternatives_of p) ≡ true → is_among q expressions ≡ true
-within_expressions part.Expression q c h = h
-within_expressions part.Assignment q c h = among_drop 1 q expressions h
-within_expressions part.Conditional q c h = among_drop 2 q expressions h
-within_expressions part.LogicalOr q c h = among_drop 3 q expressions h
-within_expressions part.LogicalAnd q c h = among_drop 4 q expressions h
-within_expressions part.Or q c h = among_drop 5 q expressions h
-within_expressions part.Xor q c h = among_drop 6 q expressions h
-within_expressions part.And q c h = among_drop 7 q expressions h
-within_expressions part.Equality q c h = among_drop 8 q expressions h
-within_expressions part.Relational q c h = among_drop 9 q expressions h
-within_expressions part.Shift q c h = among_drop 10 q expressions h
-within_expressions part.Additive q c h = among_drop 11 q expressions h
-within_expressions part.Multiplicative q c h = among_drop 12 q expressions h
-within_expressions part.Cast q c h = among_drop 13 q expressions h
-within_expressions part.Unary q c h = among_drop 14 q expressions h
-within_expressions part.Postfix q c h = among_drop 15 q expressions h
-within_expressions part.Primary q c h = among_drop 16 q expressions h
-within_expressions p q c h = absurd (false≢true c)
-
-pub expressions_stand : (p : Part) (k : Kind) → is_expression_part p ≡ true → stands_for p k ≡ true → is_expression (form_of k) ≡ true
-expressions_stand p k c s = row _ _ (expression_kinds k) (within_expressions p (part_of k) c s)
-
-pub expression_there : (o : Option Part) (k : Kind) → is_of is_expression_part o ≡ true → Stands o k → is_expression (form_of k) ≡ true
-expression_there = of_part is_expression_part (λ k. is_expression (form_of k)) expressions_stand
+use Rattle.cr_meaning_references.proofs.TreesLemmas.Grammar.{part_in, Stands, is_of, of_part, among_drop}
+use Rattle.cr_meaning_references.proofs.TreesLemmas.Expressions.{is_expression_part, is_jump}
+use Rattle.cr_meaning_types.proofs.KnownLemmas.Reading.{row}
 
 -- ---- statements, and items of a block
 
@@ -116,42 +82,6 @@ initialisers_stand p k c s = absurd (false≢true c)
 
 pub initialiser_there : (o : Option Part) (k : Kind) → is_of is_initialiser_part o ≡ true → Stands o k → (is_expression (form_of k) || is_list k) ≡ true
 initialiser_there = of_part is_initialiser_part (λ k. is_expression (form_of k) || is_list k) initialisers_stand
-
--- ---- which parts are asked
-
-abbrev asks : Kind → ℕ → Bool
-asks c k = not (is_asked (form_of c) k) || (is_of is_expression_part (part_in (side_of c) k) && nat_lt k (least (side_of c)))
-
-asks_first : (c : Kind) → asks c 0 ≡ true
-unfolding rule_of
-asks_first kind.Comma = refl
-asks_first c = refl
-
-asks_second : (c : Kind) → asks c 1 ≡ true
-unfolding rule_of
-asks_second kind.Comma = refl
-asks_second c = refl
-
-asks_third : (c : Kind) → asks c 2 ≡ true
-unfolding rule_of
-asks_third kind.Comma = refl
-asks_third c = refl
-
-asks_more : (c : Kind) (k : ℕ) → is_asked (form_of c) (suc (suc (suc k))) ≡ false
-asks_more kind.Comma k = refl
-asks_more c k = refl
-
--- the operands that a rule reads are there, and are expressions
-pub asked : (c : Kind) (k : ℕ) → is_asked (form_of c) k ≡ true → (is_of is_expression_part (part_in (side_of c) k) ≡ true) × (k < least (side_of c))
-asked c zero h = let x = and_parts _ _ (row _ _ (asks_first c) h) in (x.0, ltb-true 0 (least (side_of c)) x.1)
-asked c (suc zero) h = let x = and_parts _ _ (row _ _ (asks_second c) h) in (x.0, ltb-true 1 (least (side_of c)) x.1)
-asked c (suc (suc zero)) h = let x = and_parts _ _ (row _ _ (asks_third c) h) in (x.0, ltb-true 2 (least (side_of c)) x.1)
-asked c (suc (suc (suc k))) h = absurd (false≢true (sym (asks_more c k) ∙ h))
-
--- arguments are expressions
-pub argument : (k : ℕ) → is_of is_expression_part (part_in (side_of kind.Call) k) ≡ true
-unfolding rule_of
-argument k = refl
 
 -- ---- how many parts
 
@@ -383,11 +313,6 @@ pub listing_apart : (c : Kind) → is_listing c ≡ true → is_address c ≡ fa
 listing_apart kind.InitDeclarator h = refl
 listing_apart kind.InitializerList h = refl
 listing_apart c h = absurd (false≢true h)
-
--- the kind of a node that isn't there has no operands and no number of parts
-abbrev pub is_jump : Kind → Bool
-is_jump kind.Break = true
-is_jump c = false
 
 pub counted_there : (c : Kind) (m : ℕ) → parts_of (form_of c) ≡ Some m → is_jump c ≡ false
 counted_there kind.Break m e = absurd (cc e)

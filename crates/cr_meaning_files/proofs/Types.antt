@@ -7,7 +7,6 @@ use Rattle.cr_syntax.specs.declared.node.Kind.{Kind}
 use Rattle.cr_syntax.specs.declared.node.Kind.TheVariants as kind
 use Rattle.cr_syntax.specs.declared.node.Node.{Node}
 use Rattle.cr_syntax_nodes.proofs.Numbers.{some_at}
-use Rattle.cr_check_types.specs.declared.shape.Shape.{Shape}
 use Rattle.cr_check_types.specs.Types.{Qualified, type_at}
 use Rattle.cr_check_operands.specs.Values.{Seen}
 use Rattle.cr_check_expressions.specs.declared.known.Declared.{Declared}
@@ -19,13 +18,10 @@ use Rattle.cr_check_declarators.specs.declared.words.Specified.{Specified}
 use Rattle.cr_check_declarators.specs.declared.words.Class.{Class}
 use Rattle.cr_check_declarators.specs.declared.declarator.Declarator.{Declarator}
 use Rattle.cr_check_declarators.specs.declared.enumerators.Enumerated.{Enumerated}
-use Rattle.cr_check_declarations.specs.declared.tree.Tree.{Tree}
 use Rattle.cr_check_declarations.specs.Before.{kind_in}
 use Rattle.cr_check_declarations.specs.Named.{class_of, is_typedef, declares_name, value_by, ordinary_by, ordinary_of, names_ordinary, specifiers_in, constant_by, declared_by}
-use Rattle.cr_check_unit.specs.declared.typing.Typing.{Typing}
 use Rattle.cr_check_unit.specs.Typing.{cut, entry_at, source_in, IsRuled, IsRuledIf}
 use Rattle.cr_typed.specs.declared.typed.Typed.{Typed}
-use Rattle.cr_typed_unit.specs.Typed.{IsTypedBy}
 use Rattle.cr_meaning_operations.specs.Shapes.{type_of_node}
 use Rattle.cr_meaning_declarations.specs.Declared.Files.{IsUnitOfFile}
 use Rattle.cr_meaning_typing.proofs.JudgedLemmas.Judged.{judged}
@@ -86,20 +82,10 @@ declared_row k nodes said own row e d =
 
 module _ (file : List ℕ) (t : Typed) (it : IsUnitOfFile file t) (i : ℕ) (n : Node) (at : slice_get t.nodes i ≡ Some n) (is : n.kind ≡ kind.Identifier)
     (lvalue : (facts_at it.checked.checked.table it.checked.checked.whole.typing.facts i).lvalue ≡ true) where
-  abbrev made_by : IsTypedBy file it.unit it.names it.checked.checked t
-  made_by = it.checked.by
-
-  abbrev typing : Typing
-  typing = it.checked.checked.whole.typing
-
-  abbrev shapes : List Shape
-  shapes = it.checked.checked.table
+  open it use {made_by, typing, shapes, tree}
 
   abbrev look : ℕ → Qualified
   look = type_at shapes
-
-  abbrev tree : Tree
-  tree = made_by.tree
 
   here : slice_get tree.nodes.now i ≡ Some n
   here = ap (λ ns. slice_get ns i) (made_by.is.whole.tree.nodes ∙ sym made_by.elaborated.nodes_are) ∙ at

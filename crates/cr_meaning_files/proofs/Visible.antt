@@ -3,6 +3,7 @@ use Rattle.std.proofs.Common.{◌≡◌, ℕ, zero, suc, ◌+◌, ◌<◌, ◌�
 use Rattle.std.specs.Prelude.{if◌then◌else◌}
 use Rattle.std.specs.Option.{is_some}
 use Rattle.std.proofs.lemmas.Bool.{false≢true, and_parts, eqb-true, eq-eqb, lt-ltb}
+use Rattle.std.proofs.lemmas.Option.{same_Some}
 use Rattle.cr_scopes_events.specs.declared.event.Role.{Role}
 use Rattle.cr_scopes_events.specs.declared.event.Role.TheVariants as role
 use Rattle.cr_scopes_events.specs.declared.event.Event.{Event}
@@ -19,7 +20,7 @@ use Rattle.cr_scopes_bindings.specs.Visible.{is_named, latest, visible}
 use Rattle.cr_scopes_visibility.specs.Alone.Alone.{IsAlone}
 use Rattle.cr_scopes_visibility.specs.Alone.Sight.{is_used}
 use Rattle.cr_scopes_visibility.proofs.AloneLemmas.Telling.{AreRight, all_right, token_told}
-use Rattle.cr_scopes_visibility.proofs.AloneLemmas.First.{number_is, some_same, told_there, within_is}
+use Rattle.cr_scopes_visibility.proofs.AloneLemmas.First.{number_is, told_there, within_is}
 use Rattle.cr_scopes_visibility.specs.Uses.Uses.{is_use}
 use Rattle.cr_scopes_visibility.proofs.ToldLemmas.Events.{all_came}
 use Rattle.cr_scopes_visibility.specs.Once.Told.{count_of}
@@ -303,7 +304,7 @@ module _ (name : ℕ → ℕ) (events : List Event) (tokens : ℕ) (names : Name
   has_once : count_of token events ≤ 1 → entity_at names site ≡ Some entity
   has_once one =
       let y = used_told name token site all (counted events token one) (counted events site few) used use_is.0 use_is.1 e in
-      let same : y.own ≡ own.0 = some_same y.own own.0 (sym y.is ∙ own_told) in
+      let same : y.own ≡ own.0 = same_Some y.own own.0 (sym y.is ∙ own_told) in
       by_same (sym y.first ∙ ap (λ (z : Told). z.first) same)
 
   has_alone : IsAlone token all → entity_at names site ≡ Some entity

@@ -17,7 +17,6 @@ use Rattle.cr_check_enclosing.specs.declared.context.Around.{Around}
 use Rattle.cr_check_enclosing.specs.Above.{above_of}
 use Rattle.cr_check_enclosing.specs.Around.{outermost, inside, below}
 use Rattle.cr_check_types.specs.declared.layout.Layout.{Layout}
-use Rattle.cr_check_types.specs.declared.shape.Shape.{Shape}
 use Rattle.cr_check_types.specs.Types.{Qualified, plain, pointer as to, array, type_at}
 use Rattle.cr_check_types.specs.Relations.{is_content_if, is_complete_at}
 use Rattle.cr_check_types.specs.Layouts.{layout_of}
@@ -31,7 +30,6 @@ use Rattle.cr_check_declarators.specs.declared.declarator.Declarator.{Declarator
 use Rattle.cr_check_declarators.specs.declared.enumerators.Enumerated.{Enumerated}
 use Rattle.cr_check_declarators.specs.Declarators.{declares_type, is_object_of, whole_elements, whole_object, function_fault_of, open_fault_of, cells_fault_of}
 use Rattle.cr_check_declarators.specs.Specifiers.{is_member}
-use Rattle.cr_check_declarations.specs.declared.tree.Tree.{Tree}
 use Rattle.cr_check_declarations.specs.Before.{Before, kind_if as found_kind, kind_in, specified_in}
 use Rattle.cr_check_declarations.specs.Named.{class_of, is_typedef, is_initialised, is_declaration, is_declarator, declares_name, value_by, declared_as, ordinary_by, ordinary_of, names_ordinary, specifiers_in, declared_by as declares_by, declaration_at, above_in, declaration_of}
 use Rattle.cr_check_declarations.specs.Faults.{Has, has_at, fault_at, token_if, place_of, is_incomplete, declarator_faults, whole_faults}
@@ -39,10 +37,8 @@ use Rattle.cr_check_expressions.specs.Breaks.{fault}
 use Rattle.cr_check_initialisers.specs.Places.{sized}
 use Rattle.cr_check_initialisers.specs.Plans.{is_open}
 use Rattle.cr_check_initialised.specs.Initialised.{Planned, object_of, planned_in, planned_if, is_planned, planned_by}
-use Rattle.cr_check_unit.specs.declared.typing.Typing.{Typing}
 use Rattle.cr_check_unit.specs.Typing.{cut, entry_at, before_in, object_in}
 use Rattle.cr_typed.specs.declared.typed.Typed.{Typed}
-use Rattle.cr_typed_unit.specs.Typed.{IsTypedBy}
 use Rattle.cr_meaning_operations.specs.Operations.{kind_if, kind_at, parts_if, parts_at}
 use Rattle.cr_meaning_typing.specs.Typed.Laws.{HoldsAll}
 use Rattle.cr_meaning_typing.specs.Typed.Typing.{has_value}
@@ -51,19 +47,23 @@ use Rattle.cr_meaning_typing.specs.Judged.Judged.{seen_in, source_of, scene_of, 
 use Rattle.cr_meaning_typing.proofs.JudgedLemmas.Judged.{judged}
 use Rattle.cr_meaning_declarations.proofs.NamesLemmas.Parents.{IsPartOf, above_some}
 use Rattle.cr_meaning_types.specs.Known.Shaped.{IsPart, is_filled, fits}
-use Rattle.cr_meaning_types.specs.Known.Sighted.{AreSighted}
 use Rattle.cr_meaning_types.proofs.KnownLemmas.Declaring.{there_is, declarator_holds}
 use Rattle.cr_meaning_types.specs.Fitting.Bounded.{IsBounded, Declares}
 use Rattle.cr_meaning_types.proofs.FittingLemmas.Names.{declares_all}
 use Rattle.cr_meaning_types.proofs.FittingLemmas.Bounding.{own_bounded_at}
 use Rattle.cr_meaning_types.proofs.FittingLemmas.Literals.{literals}
+use Rattle.cr_meaning_types.proofs.KnownLemmas.Sizes.{declarator_names}
 use Rattle.cr_meaning_references.proofs.TypedefsLemmas.Files.{are_seen}
 use Rattle.cr_meaning_declarations.specs.Declared.Files.{IsUnitOfFile, assembled}
-use Rattle.cr_meaning_files.proofs.Grammar.{part_in, Stands}
-use Rattle.cr_meaning_files.proofs.Tree.{has_part, at_most}
-use Rattle.cr_meaning_files.proofs.Filling.{unit, nodes_are, ruled}
+use Rattle.cr_meaning_declarations.proofs.DeclaredLemmas.Nodes.{of_unit}
+use Rattle.cr_meaning_declarations.proofs.DeclaredLemmas.Files.{tree_of}
+use Rattle.cr_meaning_declarations.proofs.DeclaredLemmas.Once.{place_declaration as declaration_place, place_init as initialised_place}
+use Rattle.cr_meaning_references.proofs.TreesLemmas.Grammar.{part_in, Stands}
+use Rattle.cr_meaning_references.proofs.TreesLemmas.Tree.{has_part, at_most}
+use Rattle.cr_meaning_files.proofs.Filling.{ruled}
 use Rattle.cr_meaning_files.proofs.Laid.{around_at}
-use Rattle.cr_meaning_files.proofs.Shaped.{shaped, surrounded}
+use Rattle.cr_meaning_references.proofs.TreesLemmas.Shaped.{surrounded, shaped}
+use Rattle.cr_meaning_references.proofs.TreesLemmas.Sighted.{sighted}
 use Rattle.cr_meaning_files.proofs.Results.{all}
 use Rattle.cr_meaning_files.proofs.Declared.{types_known}
 use Rattle.cr_meaning_files.proofs.Sight.{holds_declaration}
@@ -150,14 +150,6 @@ holder_place kind.Compound i a h = refl
 holder_place kind.For i a h = refl
 holder_place k i a h = absurd (false≢true h)
 
-pub initialised_place : (k : Kind) (i : ℕ) (a : Around) → k ≡ kind.InitDeclarator → (inside k i a).place ≡ a.place
-unfolding inside
-initialised_place k i a e = ap (λ c. (inside c i a).place) e
-
-pub declaration_place : (k : Kind) (i : ℕ) (a : Around) → k ≡ kind.Declaration → (inside k i a).place ≡ a.place
-unfolding inside
-declaration_place k i a e = ap (λ c. (inside c i a).place) e
-
 typedef_same : (storage : Option Class) → declares_type storage ≡ is_typedef storage
 typedef_same None = refl
 typedef_same (Some class.Typedef) = refl
@@ -183,11 +175,11 @@ no_parameter zero low h = false≢true h
 no_parameter (suc zero) low h = false≢true h
 no_parameter (suc (suc k)) low h = absurd (omega (arith, low))
 
-definition_counts : most (side_of kind.FunctionDefinition) ≡ Some 3
+pub definition_counts : most (side_of kind.FunctionDefinition) ≡ Some 3
 unfolding rule_of
 definition_counts = refl
 
-parameter_counts : most (side_of kind.Parameter) ≡ Some 2
+pub parameter_counts : most (side_of kind.Parameter) ≡ Some 2
 unfolding rule_of
 parameter_counts = refl
 
@@ -204,10 +196,6 @@ complete_later nodes at later le (to c v below) e = refl
 complete_later nodes at later le (array n below) e =
     let both = and_parts (not (n == 0)) (is_complete_at nodes at below) e in
     ap (λ b. b && is_complete_at nodes later below) both.0 ∙ complete_later nodes at later le below both.1
-
-declarator_names : (k : Kind) → is_declarator k ≡ true → declares_name k ≡ true
-declarator_names kind.InitDeclarator e = refl
-declarator_names k e = e
 
 -- a type is complete, unless it is an array of unknown size
 sized_whole : (complete : Qualified → Bool) (type : Qualified) → has_value type ≡ true → is_open type ≡ false → whole_object complete type ≡ true → complete type ≡ true
@@ -232,21 +220,11 @@ module _ (own : Has) (b : Before) (nodes : List Node) (i : ℕ) (at : Place) (st
       whole_by true b h e = not-false b h
       whole_by false b h e = absurd (false≢true e)
 
-module _ (file : List ℕ) (t : Typed) (it : IsUnitOfFile file t) (sighted : AreSighted it.checked.by.tree) where
-  abbrev made_by : IsTypedBy file it.unit it.names it.checked.checked t
-  made_by = it.checked.by
-
-  abbrev u : Tree
-  u = made_by.tree
+module _ (file : List ℕ) (t : Typed) (it : IsUnitOfFile file t) where
+  open it use {made_by, tree as u, typing, shapes as table}
 
   abbrev ns : List Node
   ns = u.nodes.now
-
-  abbrev typing : Typing
-  typing = it.checked.checked.whole.typing
-
-  abbrev table : List Shape
-  table = it.checked.checked.table
 
   abbrev is : IsJudged t (seen_in it.checked.checked) (source_of u it.checked.checked) (scene_of u it.checked.checked) it.checked.checked.surroundings.above it.checked.checked.surroundings.around
   is = judged file it.unit it.names it.checked.checked t made_by
@@ -262,17 +240,17 @@ module _ (file : List ℕ) (t : Typed) (it : IsUnitOfFile file t) (sighted : Are
       by None q =
           ap (λ (a : Around). is_scope a.place) (is.around_are.each d low ∙ ap (below t.nodes (λ p. slice_index_or it.checked.checked.surroundings.around p outermost) d) (is.above_are.each d low ∙ q))
       by (Some x) q =
-          let h = above_some t (unit file t it) (length t.nodes) d x q in
-          let part = has_part t (unit file t it) x h.place d (ap (λ o. slice_get (parts_if o) h.place) h.at ∙ h.is) in
+          let h = above_some t (of_unit file t it) (length t.nodes) d x q in
+          let part = has_part t (of_unit file t it) x h.place d (ap (λ o. slice_get (parts_if o) h.place) h.at ∙ h.is) in
           ap (λ (a : Around). is_scope a.place) (around_at file t it x h.place d part) ∙ holder_place (kind_at t x) x (around x) (holds_declaration file t it x d h of)
 
   -- the elements of an array that a node names are complete
   pub element_complete : (i : ℕ) (n : Node) → slice_get t.nodes i ≡ Some n → (most : ℕ) (below : Qualified) → type_at table (slice_index_or typing.named i 0) ≡ array most below → is_complete_at t.nodes i below ≡ true
   element_complete i n at most below g =
       let bound = subst (IsBounded ns typing.layouts i) g
-      (own_bounded_at u it.checked.checked.texts table typing made_by.is.whole.typing (λ b broken. made_by.sound.constraints b (inl broken)) (shaped file t it) (surrounded file t it) sighted (are_seen file t (assembled file t it))
-      (literals file it.unit.tokens.list.items it.unit.nodes it.checked.checked.texts it.tokenizes made_by.is.texts) i n (ap (λ xs. slice_get xs i) (nodes_are file t it) ∙ at)).named in
-      ap (λ xs. is_complete_at xs i below) (sym (nodes_are file t it)) ∙ bound.1.0
+      (own_bounded_at u it.checked.checked.texts table typing made_by.is.whole.typing (λ b broken. made_by.sound.constraints b (inl broken)) (shaped file t it) (surrounded file t it) (sighted file t it) (are_seen file t (assembled file t it))
+      (literals file it.unit.tokens.list.items it.unit.nodes it.checked.checked.texts it.tokenizes made_by.is.texts) i n (ap (λ xs. slice_get xs i) (tree_of file t it) ∙ at)).named in
+      ap (λ xs. is_complete_at xs i below) (sym (tree_of file t it)) ∙ bound.1.0
 
   -- ---- a declarator that declares an object
 
@@ -284,7 +262,7 @@ module _ (file : List ℕ) (t : Typed) (it : IsUnitOfFile file t) (sighted : Are
     own_has = has_at table (entry_at typing q).own
 
     q_at_u : slice_get ns q ≡ Some node
-    q_at_u = ap (λ xs. slice_get xs q) (nodes_are file t it) ∙ q_at
+    q_at_u = ap (λ xs. slice_get xs q) (tree_of file t it) ∙ q_at
 
     pub declares : DeclaresObject ns own_said (entry_at typing q).own.declarator (declaration_of ns u.above.now q)
     declares =
@@ -299,7 +277,7 @@ module _ (file : List ℕ) (t : Typed) (it : IsUnitOfFile file t) (sighted : Are
         (all u it.checked.checked.texts table typing made_by.is.whole.typing (λ b broken. made_by.sound.constraints b (inl broken)) q node q_at_u))
 
     own_known : has_value own_has.named ≡ true
-    own_known = (types_known file t it sighted q node q_at_u).declared (declarator_names node.kind declarator) declares.declaration declares.is
+    own_known = (types_known file t it q node q_at_u).declared (declarator_names node.kind declarator) declares.declaration declares.is
 
     -- K6: at file scope, in a block or in a clause its type is complete, unless it is an array of unknown size
     pub complete_there : is_scope (place_of u q) ≡ true → is_open own_has.named ≡ false → is_complete_at ns q own_has.named ≡ true
@@ -308,7 +286,7 @@ module _ (file : List ℕ) (t : Typed) (it : IsUnitOfFile file t) (sighted : Are
 
   module _ (i : ℕ) (n : Node) (at : slice_get t.nodes i ≡ Some n) (init : n.kind ≡ kind.InitDeclarator) where
     at_u : slice_get ns i ≡ Some n
-    at_u = ap (λ xs. slice_get xs i) (nodes_are file t it) ∙ at
+    at_u = ap (λ xs. slice_get xs i) (tree_of file t it) ∙ at
 
     low : i < length t.nodes
     low = slice_get_within t.nodes i n at
@@ -318,10 +296,10 @@ module _ (file : List ℕ) (t : Typed) (it : IsUnitOfFile file t) (sighted : Are
 
     -- the node above it is a declaration, where it is one of ordinary identifiers
     parent_kind : (d : ℕ) → above_of t.nodes (length t.nodes) i ≡ Some d → names_ordinary (kind_in ns (Some d)) ≡ true → kind_at t d ≡ kind.Declaration
-    parent_kind d q ordinary = by (kind_at t d) refl (known (slice_get t.nodes d) refl (ap (λ xs. names_ordinary (kind_in xs (Some d))) (sym (nodes_are file t it)) ∙ ordinary))
+    parent_kind d q ordinary = by (kind_at t d) refl (known (slice_get t.nodes d) refl (ap (λ xs. names_ordinary (kind_in xs (Some d))) (sym (tree_of file t it)) ∙ ordinary))
       where
-        h : IsPartOf t (unit file t it) i d
-        h = above_some t (unit file t it) (length t.nodes) i d q
+        h : IsPartOf t (of_unit file t it) i d
+        h = above_some t (of_unit file t it) (length t.nodes) i d q
 
         here : slice_get (parts_at t d) h.place ≡ Some i
         here = ap (λ o. slice_get (parts_if o) h.place) h.at ∙ h.is
@@ -330,7 +308,7 @@ module _ (file : List ℕ) (t : Typed) (it : IsUnitOfFile file t) (sighted : Are
         within = slice_get_within (parts_at t d) h.place i here
 
         stands : Stands (part_in (side_of (kind_at t d)) h.place) kind.InitDeclarator
-        stands = subst (Stands (part_in (side_of (kind_at t d)) h.place)) init_at (has_part t (unit file t it) d h.place i here).stands
+        stands = subst (Stands (part_in (side_of (kind_at t d)) h.place)) init_at (has_part t (of_unit file t it) d h.place i here).stands
 
         known : (o : Option Node) → slice_get t.nodes d ≡ o → names_ordinary (kind_in t.nodes (Some d)) ≡ true → names_ordinary (Some (kind_at t d)) ≡ true
         known None e g = absurd (false≢true (sym (ap (λ o. names_ordinary (found_kind o)) e) ∙ g))
@@ -339,19 +317,19 @@ module _ (file : List ℕ) (t : Typed) (it : IsUnitOfFile file t) (sighted : Are
         by : (k : Kind) → kind_at t d ≡ k → names_ordinary (Some k) ≡ true → k ≡ kind.Declaration
         by kind.Declaration e g = refl
         by kind.FunctionDefinition e g =
-            let few = at_most t (unit file t it) d kind.FunctionDefinition 3 e refl definition_counts in
+            let few = at_most t (of_unit file t it) d kind.FunctionDefinition 3 e refl definition_counts in
             let less = within in
             absurd (no_definition h.place (omega (arith, few, less)) (subst (λ k. Stands (part_in (side_of k) h.place) kind.InitDeclarator) e stands))
         by kind.Parameter e g =
-            let few = at_most t (unit file t it) d kind.Parameter 2 e refl parameter_counts in
+            let few = at_most t (of_unit file t it) d kind.Parameter 2 e refl parameter_counts in
             let less = within in
             absurd (no_parameter h.place (omega (arith, few, less)) (subst (λ k. Stands (part_in (side_of k) h.place) kind.InitDeclarator) e stands))
         by k e g = absurd (false≢true g)
 
     own_scope : (d : ℕ) → above_of t.nodes (length t.nodes) i ≡ Some d → kind_at t d ≡ kind.Declaration → is_scope (around i).place ≡ true
     own_scope d q of =
-        let h = above_some t (unit file t it) (length t.nodes) i d q in
-        let part = has_part t (unit file t it) d h.place i (ap (λ o. slice_get (parts_if o) h.place) h.at ∙ h.is) in
+        let h = above_some t (of_unit file t it) (length t.nodes) i d q in
+        let part = has_part t (of_unit file t it) d h.place i (ap (λ o. slice_get (parts_if o) h.place) h.at ∙ h.is) in
         ap (λ (a : Around). is_scope a.place) (around_at file t it d h.place i part)
         ∙ ap is_scope (declaration_place (kind_at t d) d (around d) of)
         ∙ declaration_scope d (slice_get_within t.nodes d h.parent h.at) of
@@ -370,7 +348,7 @@ module _ (file : List ℕ) (t : Typed) (it : IsUnitOfFile file t) (sighted : Are
     declarator = sym (ap (λ k. fits k 0 part.own.kind) init) ∙ part.fits
 
     q_at : slice_get t.nodes q ≡ Some part.own
-    q_at = ap (λ xs. slice_get xs q) (sym (nodes_are file t it)) ∙ part.at
+    q_at = ap (λ xs. slice_get xs q) (sym (tree_of file t it)) ∙ part.at
 
     -- the declaration of its declarator is the node above it
     declaration_above : (d : ℕ) → declaration_of ns u.above.now q ≡ Some d → above_of t.nodes (length t.nodes) i ≡ Some d
@@ -428,7 +406,7 @@ module _ (file : List ℕ) (t : Typed) (it : IsUnitOfFile file t) (sighted : Are
           let d = declares q part.own q_at declarator object in
           let at_q = subst (λ type. is_complete_at ns q type ≡ true) both.1 (complete_there q part.own q_at declarator object (scope d.declaration d.is d.ordinary) (ap is_open both.1 ∙ known_size)) in
           let below = part.below in
-          ap (λ xs. is_complete_at xs i p.type) (sym (nodes_are file t it)) ∙ complete_later ns q i (omega (arith, below)) p.type at_q
+          ap (λ xs. is_complete_at xs i p.type) (sym (tree_of file t it)) ∙ complete_later ns q i (omega (arith, below)) p.type at_q
 
       -- and so is what the initialiser completes, if it is of known size
       pub completed_complete : (named : Qualified) (most : ℕ) → type_at table (slice_index_or typing.named i 0) ≡ named → named ≡ sized p.type most → is_open named ≡ false → is_complete_at t.nodes i named ≡ true

@@ -31,8 +31,6 @@ use Rattle.cr_meaning_typing.specs.Typed.Placed.{IsNamed}
 use Rattle.cr_meaning_initialisation.specs.Initialised.Composites.{IsSized}
 use Rattle.cr_meaning_declarations.specs.Declared.Files.{IsUnitOfFile}
 use Rattle.cr_meaning_typing.specs.Judged.Judged.{seen_in}
-use Rattle.cr_meaning_types.specs.Known.Shaped.{IsShaped}
-use Rattle.cr_meaning_types.specs.Known.Sighted.{AreSighted}
 use Rattle.cr_meaning_composites.specs.Objects.Laws.{DeclaresObject, HasLinkage}
 
 -- a token always stands for the same: it is told once, or each time without linkage (6.2.2p6)
@@ -82,7 +80,7 @@ AutomaticNamesAreSteady = (file : List ℕ) (t : Typed) (it : IsUnitOfFile file 
 
 -- so does that of an object without linkage, which may last (6.2.4p3)
 abbrev pub ObjectsAreLinkedOrSteady : Type 0
-ObjectsAreLinkedOrSteady = (file : List ℕ) (t : Typed) (it : IsUnitOfFile file t) → IsShaped it.checked.by.tree → (token i q : ℕ) (m : Node) → IsDeclarer t.nodes token i q m
+ObjectsAreLinkedOrSteady = (file : List ℕ) (t : Typed) (it : IsUnitOfFile file t) → (token i q : ℕ) (m : Node) → IsDeclarer t.nodes token i q m
     → DeclaresObject it.checked.checked.whole.typing q → HasLinkage file t it q ⊎ IsSteady token (unit_events it.unit)
 
 -- the name that an external declaration declares is told once (6.9)
@@ -110,7 +108,7 @@ pub record StandsForObject (file : List ℕ) (t : Typed) (it : IsUnitOfFile file
 
 -- an identifier that is told once, and sees an object of a declaration, stands for it
 abbrev pub NamesStandForObjects : Type 0
-NamesStandForObjects = (file : List ℕ) (t : Typed) (it : IsUnitOfFile file t) → IsShaped it.checked.by.tree → AreSighted it.checked.by.tree → (i : ℕ) (n : Node)
+NamesStandForObjects = (file : List ℕ) (t : Typed) (it : IsUnitOfFile file t) → (i : ℕ) (n : Node)
     → slice_get t.nodes i ≡ Some n → n.kind ≡ kind.Identifier → count_of n.first (unit_events it.unit) ≤ 1 → (token declaration q : ℕ) (m : Node)
     → IsDeclarer t.nodes token declaration q m → DeclaresObject it.checked.checked.whole.typing q
     → slice_index_or it.checked.checked.surroundings.bindings.visible n.first None ≡ Some token → StandsForObject file t it i n.first token
@@ -135,7 +133,7 @@ pub record SeesParameter (file : List ℕ) (t : Typed) (it : IsUnitOfFile file t
 
 -- an identifier that is told once, and designates an object, sees the one or the other (6.5.1p2)
 abbrev pub PlacesStandForObjects : Type 0
-PlacesStandForObjects = (file : List ℕ) (t : Typed) (it : IsUnitOfFile file t) → IsShaped it.checked.by.tree → AreSighted it.checked.by.tree → (i : ℕ) (n : Node)
+PlacesStandForObjects = (file : List ℕ) (t : Typed) (it : IsUnitOfFile file t) → (i : ℕ) (n : Node)
     → slice_get t.nodes i ≡ Some n → n.kind ≡ kind.Identifier → (seen_in it.checked.checked i).lvalue ≡ true → count_of n.first (unit_events it.unit) ≤ 1
     → SeesDeclared file t it i n.first ⊎ SeesParameter file t it n.first
 

@@ -15,8 +15,6 @@ use Rattle.cr_meaning.specs.declared.op.Parameter.{Parameter}
 use Rattle.cr_meaning_operations.specs.Shapes.{named_type}
 use Rattle.cr_meaning_operations.specs.Operations.{entity_of, function_in, callee_of}
 use Rattle.cr_meaning_typing.specs.Judged.Judged.{source_of}
-use Rattle.cr_meaning_types.specs.Known.Shaped.{IsShaped}
-use Rattle.cr_meaning_types.specs.Known.Sighted.{AreSighted}
 use Rattle.cr_meaning_composites.specs.Chained.Laws.{DeclaresFunction}
 use Rattle.cr_meaning_declarations.specs.Declared.Files.{IsUnitOfFile}
 use Rattle.cr_meaning_initialisation.specs.Called.Laws.{IsMeant}
@@ -34,13 +32,13 @@ pub record SeesFunction (file : List ℕ) (t : Typed) (it : IsUnitOfFile file t)
 
 -- a called name that stands for a function sees a declaration or a definition of one, and no parameter
 abbrev pub CallsSeeDeclarations : Type 0
-CallsSeeDeclarations = (file : List ℕ) (t : Typed) (it : IsUnitOfFile file t) → IsShaped it.checked.by.tree
+CallsSeeDeclarations = (file : List ℕ) (t : Typed) (it : IsUnitOfFile file t)
     → (i : ℕ) (n : Node) → slice_get t.nodes i ≡ Some n → n.kind ≡ kind.Call → (signature : Signature) → (source_of it.checked.by.tree it.checked.checked i).stands i ≡ a_function signature
     → SeesFunction file t it i n.first
 
 -- a call of a function of the unit's own means the definition that its name's row has, where the name is told once (6.9p3, K40)
 abbrev pub CallsMeanDefinitions : Type 0
-CallsMeanDefinitions = (file : List ℕ) (t : Typed) (it : IsUnitOfFile file t) → IsShaped it.checked.by.tree → AreSighted it.checked.by.tree
+CallsMeanDefinitions = (file : List ℕ) (t : Typed) (it : IsUnitOfFile file t)
     → (i : ℕ) (n : Node) → slice_get t.nodes i ≡ Some n → n.kind ≡ kind.Call → count_of n.first (unit_events it.unit) ≤ 1
     → (signature : Signature) → (source_of it.checked.by.tree it.checked.checked i).stands i ≡ a_function signature
     → (parameters : List Parameter) (rest : ℕ) (is_main : Bool) → callee_of t i ≡ Function parameters rest is_main → IsMeant file t it i (function_in (named_type t (entity_of t i)))

@@ -1,4 +1,4 @@
 pub mod ToldLemmas
 pub mod TypedefsLemmas
 pub mod ConstantLemmas
-pub mod KeptLemmas
+pub mod TreesLemmas

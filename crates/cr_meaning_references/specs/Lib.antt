@@ -1,4 +1,4 @@
 pub mod Told
 pub mod Typedefs
 pub mod Constant
-pub mod Kept
+pub mod Trees

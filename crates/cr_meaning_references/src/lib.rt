@@ -4,6 +4,6 @@
 #![tactic(auto)]
 
 pub mod constant;
-pub mod kept;
 pub mod told;
+pub mod trees;
 pub mod typedefs;

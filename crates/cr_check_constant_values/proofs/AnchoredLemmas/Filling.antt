@@ -53,9 +53,6 @@ among_left b [] other h = absurd h
 among_left b (x ∷ one) other (inl e) = inl e
 among_left b (x ∷ one) other (inr h) = inr (among_left b one other h)
 
-some_same : {A : Type 0} (x y : A) → Some x ≡ Some y → x ≡ y
-some_same x y e = cc
-
 -- ---- entries of which something holds
 
 module _ (Good : Entry → Type 0) where

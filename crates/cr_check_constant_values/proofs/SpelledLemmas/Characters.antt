@@ -70,7 +70,7 @@ module _ (file : List ℕ) where
 
 -- ---- escape sequences
 
-other : (b c : ℕ) → (b ≡ c → ⊥) → (b == c) ≡ false
+pub other : (b c : ℕ) → (b ≡ c → ⊥) → (b == c) ≡ false
 other b c f = by (b == c) refl
   where
     by : (x : Bool) → (b == c) ≡ x → x ≡ false

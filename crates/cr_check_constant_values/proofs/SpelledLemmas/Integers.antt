@@ -3,7 +3,7 @@ use Rattle.std.proofs.Common.{◌≡◌, ℕ, zero, suc, ◌+◌, ◌-◌, ◌�
 use Rattle.std.specs.Prelude.{nat_le, slice_index}
 use Rattle.std.specs.List.{find, list_any, count_by, prefix_len}
 use Rattle.std.specs.Option.{option_or, is_some}
-use Rattle.std.proofs.lemmas.Bool.{false≢true, and_from, cases_lt, eqb-true, lt-ltb, le-ltb, le-leb, or_from, or_left, or_right}
+use Rattle.std.proofs.lemmas.Bool.{false≢true, and_from, cases_lt, lt-ltb, le-ltb, le-leb, or_from, or_left, or_right}
 use Rattle.std.proofs.lemmas.List.{get_or_past, get_or-drop, length-drop, take_all}
 use Rattle.cr_ints.specs.declared.kind.IntKind.{IntKind}
 use Rattle.cr_ints.specs.declared.kind.IntKind.TheVariants.{Int, Long, LLong, ULLong}
@@ -15,6 +15,7 @@ use Rattle.cr_tokens.proofs.Tables.{is_among-all}
 use Rattle.cr_check_constants.specs.declared.constant.Operand.{Operand}
 use Rattle.cr_check_constants.specs.Literals.{is_long_letter, is_suffix_letter, before, digits_of, magnitude_of, reaches, first_sign, first_kind, valued}
 use Rattle.cr_check_constant_values.specs.Spelled.Laws
+use Rattle.cr_check_constant_values.proofs.SpelledLemmas.Characters.{other}
 
 -- ---- digits end where the suffix begins
 
@@ -26,14 +27,6 @@ cut p (x ∷ xs) zero none le stop = ap (λ b. cond (not b) (1 + prefix_len (λ 
 cut p (x ∷ xs) (suc n) none le stop =
     let rest = cut p xs n (λ k less. none (suc k) (omega (arith, less))) (omega (arith, le)) (λ less. stop (omega (arith, less))) in
     ap (λ b. cond (not b) (1 + prefix_len (λ x. not (p x)) xs) 0) (none 0 (omega arith)) ∙ omega (arith, rest)
-
--- no letter of a suffix is a digit
-other : (b c : ℕ) → (b ≡ c → ⊥) → (b == c) ≡ false
-other b c f = by (b == c) refl
-  where
-    by : (x : Bool) → (b == c) ≡ x → x ≡ false
-    by true e = absurd (f (eqb-true b c e))
-    by false e = refl
 
 abbrev is_hex : ℕ → Bool
 is_hex x = (nat_le 48 x && nat_le x 57) || ((nat_le 65 x && nat_le x 70) || (nat_le 97 x && nat_le x 102))

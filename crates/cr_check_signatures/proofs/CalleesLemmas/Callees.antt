@@ -135,16 +135,16 @@ own_name nodes w token n at is e = by n.kind is (sym (ap (λ o. named_if o (decl
 
 -- ---- a function's signature
 
-abbrev signature_of : (ℕ → Qualified) → ℕ → Bool → List ℕ → Signature
+abbrev pub signature_of : (ℕ → Qualified) → ℕ → Bool → List ℕ → Signature
 signature_of look row more rows = record { gives = look row; count = length rows; parameter = λ k. found_by look (slice_get rows k); more = more }
 
-record IsDeclaredSo (look : ℕ → Qualified) (rows : List ℕ) (d : Declared) (s : Signature) : Type 0 where
-  row : ℕ
-  more : Bool
-  is : d ≡ Function row more
-  same : signature_of look row more rows ≡ s
+pub record IsDeclaredSo (look : ℕ → Qualified) (rows : List ℕ) (d : Declared) (s : Signature) : Type 0 where
+  pub row : ℕ
+  pub more : Bool
+  pub is : d ≡ Function row more
+  pub same : signature_of look row more rows ≡ s
 
-declared_so : (look : ℕ → Qualified) (rows : List ℕ) (d : Declared) (s : Signature) → meaning_by look rows d ≡ a_function s → IsDeclaredSo look rows d s
+pub declared_so : (look : ℕ → Qualified) (rows : List ℕ) (d : Declared) (s : Signature) → meaning_by look rows d ≡ a_function s → IsDeclaredSo look rows d s
 declared_so look rows (Function row more) s e = record { row = row; more = more; is = refl; same = cc }
 declared_so look rows (Object row register) s e = absurd cc
 declared_so look rows (Enumerator value) s e = absurd cc

@@ -34,23 +34,23 @@ use Rattle.cr_check_signatures.proofs.FunctionsLemmas.Linked.{functions}
 
 -- ---- the row of what is declared is that of the named type
 
-abbrev row_or : ℕ → Declared → ℕ
+abbrev pub row_or : ℕ → Declared → ℕ
 row_or other (Function row more) = row
 row_or other d = other
 
-keeps : (row : ℕ) (b : Bool) (x y : Declared) → row_or row x ≡ row → row_or row y ≡ row → row_or row (if b then x else y) ≡ row
+pub keeps : (row : ℕ) (b : Bool) (x y : Declared) → row_or row x ≡ row → row_or row y ≡ row → row_or row (if b then x else y) ≡ row
 keeps row true x y h g = h
 keeps row false x y h g = g
 
-value_row : (nodes : List Node) (c : Option Class) (own : Option ℕ) (row : ℕ) → row_or row (value_by nodes c own row) ≡ row
+pub value_row : (nodes : List Node) (c : Option Class) (own : Option ℕ) (row : ℕ) → row_or row (value_by nodes c own row) ≡ row
 value_row nodes c None row = refl
 value_row nodes c (Some f) row = refl
 
-ordinary_row : (nodes : List Node) (said : ℕ → Specified) (own : Declarator) (row : ℕ) (o : Option ℕ) → row_or row (ordinary_by nodes said own row o) ≡ row
+pub ordinary_row : (nodes : List Node) (said : ℕ → Specified) (own : Declarator) (row : ℕ) (o : Option ℕ) → row_or row (ordinary_by nodes said own row o) ≡ row
 ordinary_row nodes said own row None = refl
 ordinary_row nodes said own row (Some s) = keeps row (is_typedef (class_of (said s).storage)) TypeName (value_by nodes (class_of (said s).storage) own.function row) refl (value_row nodes (class_of (said s).storage) own.function row)
 
-constant_row : (row : ℕ) (e : Option Enumerated) → row_or row (constant_by e) ≡ row
+pub constant_row : (row : ℕ) (e : Option Enumerated) → row_or row (constant_by e) ≡ row
 constant_row row None = refl
 constant_row row (Some own) = by own.value
   where
@@ -58,7 +58,7 @@ constant_row row (Some own) = by own.value
     by None = refl
     by (Some v) = refl
 
-declared_row : (k : Kind) (nodes : List Node) (said : ℕ → Specified) (own : Declarator) (row : ℕ) (e : Option Enumerated) (d : Option ℕ) → row_or row (declared_by k nodes said own row e d) ≡ row
+pub declared_row : (k : Kind) (nodes : List Node) (said : ℕ → Specified) (own : Declarator) (row : ℕ) (e : Option Enumerated) (d : Option ℕ) → row_or row (declared_by k nodes said own row e d) ≡ row
 declared_row kind.Enumerator nodes said own row e d = constant_row row e
 declared_row k nodes said own row e d =
     keeps row (declares_name k) (ordinary_of nodes said own row d) Unclear

@@ -42,7 +42,7 @@ use Rattle.cr_check_signatures.specs.Functions.Laws
 
 -- ---- faults that aren't there
 
-abbrev HoldsAll : List (Option Break) → Type 0
+abbrev pub HoldsAll : List (Option Break) → Type 0
 HoldsAll faults = (b : Break) → IsAmong faults b → ⊥
 
 unbroken : (row token : ℕ) (b : Bool) (rest : List (Option Break)) → HoldsAll (fault row token b ∷ rest) → b ≡ false
@@ -103,7 +103,7 @@ record IsPlain (nodes : List Node) (said : ℕ → Specified) (own : Declarator)
   plain : is_typedef (class_of (specified_in said (specifiers_in nodes d)).storage) ≡ false
   function : is_some own.function ≡ true
 
-abbrev is_function : Declared → Bool
+abbrev pub is_function : Declared → Bool
 is_function (Function row more) = true
 is_function d = false
 
@@ -167,7 +167,7 @@ declared_there own at typedef result f h =
     not-false (is_declared at typedef own.empty) two.0
 
 -- K11
-no_function : (at : Place) (typedef : Bool) (linkage : Linkage) → may_be_initialised_of at typedef true linkage ≡ false
+pub no_function : (at : Place) (typedef : Bool) (linkage : Linkage) → may_be_initialised_of at typedef true linkage ≡ false
 no_function at typedef linkage = by at typedef
   where
     by : (at : Place) (typedef : Bool) → may_be_initialised_of at typedef true linkage ≡ false
@@ -178,7 +178,7 @@ no_function at typedef linkage = by at typedef
     by at true = refl
     by at false = refl
 
-no_initialiser : (at : Place) (storage : Option Class) (function : Bool) → function ≡ true → may_have_initialiser at storage function ≡ false
+pub no_initialiser : (at : Place) (storage : Option Class) (function : Bool) → function ≡ true → may_have_initialiser at storage function ≡ false
 no_initialiser at storage function e = ap (may_have_initialiser at storage) e ∙ no_function at (is_typedef storage) (linkage_of at storage true None)
 
 initialised_holds : (own : Declarator) (said : ℕ → Specified) (u : Tree) (i : ℕ) (n : Node) (d : Option ℕ) → HoldsAll (initialised_faults own said u i n d)

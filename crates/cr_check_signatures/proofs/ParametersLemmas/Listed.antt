@@ -45,7 +45,7 @@ mapped f g (p ∷ ps) h = (λ j. h 0 p refl j ∷ mapped f g ps (λ k q e. h (su
 -- ---- kinds
 
 -- what has a declared name is a declarator
-names_declare : (k : Kind) (at : ℕ → Named) (i : ℕ) (n : Node) (token : ℕ) → (names_by k at i n).name ≡ Some token → is_declarator k ≡ true
+pub names_declare : (k : Kind) (at : ℕ → Named) (i : ℕ) (n : Node) (token : ℕ) → (names_by k at i n).name ≡ Some token → is_declarator k ≡ true
 names_declare kind.NameDeclarator at i n token e = refl
 names_declare kind.GroupDeclarator at i n token e = refl
 names_declare kind.PointerDeclarator at i n token e = refl
@@ -111,7 +111,7 @@ heads_kept d named base of_none e = refl
 
 -- ---- declarators
 
-array_function : (inner : Declarator) (bracket : ℕ) (s : Size) → (array_of inner bracket s).function ≡ inner.function
+pub array_function : (inner : Declarator) (bracket : ℕ) (s : Size) → (array_of inner bracket s).function ≡ inner.function
 array_function inner bracket size.Open = refl
 array_function inner bracket size.Untyped = refl
 array_function inner bracket size.Wrong = refl

@@ -1,5 +1,5 @@
 -- The declarations of a function stand one behind the other (C11 6.2.2p2, 6.2.7p2).
-use Rattle.std.proofs.Common.{◌≡◌, ℕ, zero, suc, ◌<◌, ◌≤◌, ◌&&◌, inl, inr, ◌⊎◌, Bool, true, false, List, [], ◌∷◌, Option, None, Some, map, nat_lt, slice_get, slice_index_or, refl, sym, ap, ◌∙◌, arith, if◌then◌else◌}
+use Rattle.std.proofs.Common.{◌≡◌, ℕ, zero, suc, ◌<◌, ◌&&◌, inl, inr, ◌⊎◌, Bool, true, false, List, [], ◌∷◌, Option, None, Some, map, nat_lt, slice_get, slice_index_or, refl, sym, ap, ◌∙◌, arith, if◌then◌else◌}
 use Rattle.std.proofs.lemmas.Bool.{cases_lt, false≢true, eqb-true, eq-eqb, ltb-true, and_parts}
 use Rattle.cr_syntax.specs.declared.node.Kind.{Kind}
 use Rattle.cr_syntax.specs.declared.node.Kind.TheVariants as kind
@@ -12,49 +12,36 @@ use Rattle.cr_scopes_bindings.specs.Entities.{entity_at, declares, declared_enti
 use Rattle.cr_scopes_linkage.specs.Shared.Sorts.{is_value}
 use Rattle.cr_scopes_linkage.specs.Shared.Origins.{IsDeclarer}
 use Rattle.cr_check_surroundings.specs.Raised.{is_first, initialises, raised_by, raised_if, raised}
-use Rattle.cr_check_types.specs.declared.shape.Shape.{Shape}
 use Rattle.cr_check_types.specs.Types.{Qualified, type_at}
 use Rattle.cr_check_expressions.specs.declared.known.Declared.{Declared}
 use Rattle.cr_check_expressions.specs.declared.known.Declared.TheVariants.{Object, Enumerator, Function, TypeName, Unclear}
-use Rattle.cr_check_declarations.specs.declared.tree.Tree.{Tree}
 use Rattle.cr_check_declarations.specs.Before.{kind_if, kind_in}
 use Rattle.cr_check_declarations.specs.Named.{is_declarator, declares_name, declaration_of}
 use Rattle.cr_check_linkage.specs.Linked.{is_body_behind}
 use Rattle.cr_check_linkage.specs.NameTypes.{is_known, type_as}
-use Rattle.cr_check_unit.specs.declared.typing.Typing.{Typing}
 use Rattle.cr_check_signatures.specs.Functions.Linked.{same_at, does_at, now_at, IsFunction, directly, behind}
 use Rattle.cr_check_signatures.specs.Functions.Outlines.{outline}
 use Rattle.cr_check_signatures.proofs.FunctionsLemmas.Linked.{functions}
 use Rattle.cr_check_signatures.proofs.FunctionsLemmas.Chained.{declarations_alike}
 use Rattle.cr_check_signatures.proofs.FunctionsLemmas.Followed.{defined_once}
 use Rattle.cr_typed.specs.declared.typed.Typed.{Typed}
-use Rattle.cr_typed_unit.specs.Typed.{IsTypedBy}
-use Rattle.cr_meaning_types.specs.Known.Shaped.{IsShaped}
-use Rattle.cr_meaning_types.specs.Known.Sighted.{AreSighted}
 use Rattle.cr_meaning_declarations.specs.Declared.Files.{IsUnitOfFile}
 use Rattle.cr_meaning_declarations.proofs.DeclaredLemmas.Nodes.{of_unit}
 use Rattle.cr_meaning_declarations.specs.Linked.Laws.{DeclaresValue}
 use Rattle.cr_meaning_declarations.proofs.LinkedLemmas.Owned.{one_role}
 use Rattle.cr_meaning_declarations.proofs.LinkedLemmas.Sorts.{values_share}
-use Rattle.cr_meaning_declarations.proofs.LinkedLemmas.Order.{order_of, in_order_is}
+use Rattle.cr_meaning_declarations.proofs.LinkedLemmas.Order.{in_order_is}
 use Rattle.cr_meaning_declarations.proofs.LinkedLemmas.Columns.{columns_find}
+use Rattle.cr_meaning_declarations.proofs.DeclaredLemmas.Files.{order_of}
 use Rattle.cr_meaning_composites.specs.Chained.Laws
 use Rattle.cr_meaning_composites.specs.Chained.Laws.{DeclaresFunction, IsBehind}
 use Rattle.cr_meaning_composites.proofs.ChainedLemmas.Words.{value_is, no_type}
 use Rattle.cr_meaning_composites.proofs.ChainedLemmas.Known.{nodes_are, is_typing, holds, owned, is_known_there, function_plain, types_known, value_is_known, there, definition_declares}
+use Rattle.cr_meaning_composites.proofs.ObjectsLemmas.Declaring.{IsLast, entity_if_declared as entity_is}
+use Rattle.cr_meaning_references.proofs.TreesLemmas.Shaped.{shaped}
+use Rattle.cr_scopes_visibility.proofs.AloneLemmas.First.{number_same as number_is}
 
 -- ---- the last token before one that declares the same
-
-record IsLast (key : ℕ → Option ℕ) (b k q : ℕ) : Type 0 where
-  last : ℕ
-  is : last_with key b k ≡ Some last
-  has : key last ≡ Some k
-  behind : q ≤ last
-  low : last < b
-
-number_is : (o : Option ℕ) (k : ℕ) → is_number o k ≡ true → o ≡ Some k
-number_is None k h = absurd (false≢true h)
-number_is (Some j) k h = ap Some (eqb-true j k h)
 
 number_there : (j k : ℕ) → j ≡ k → is_number (Some j) k ≡ true
 number_there j k e = eq-eqb j k e
@@ -77,22 +64,22 @@ last_there key (suc b) k q less h = by (is_number (key b) k) refl (λ x. last_th
 
 -- ---- what the declaration before is read from
 
-record IsInitialised (nodes : List Node) (a r q : ℕ) : Type 0 where
-  node : Node
-  at : slice_get nodes a ≡ Some node
-  is : node.kind ≡ kind.InitDeclarator
-  first : slice_get node.parts 0 ≡ Some r
-  below : a < q
+pub record IsInitialised (nodes : List Node) (a r q : ℕ) : Type 0 where
+  pub node : Node
+  pub at : slice_get nodes a ≡ Some node
+  pub is : node.kind ≡ kind.InitDeclarator
+  pub first : slice_get node.parts 0 ≡ Some r
+  pub below : a < q
 
-first_part : (part : ℕ) (ps : List ℕ) → is_first part ps ≡ true → slice_get ps 0 ≡ Some part
+pub first_part : (part : ℕ) (ps : List ℕ) → is_first part ps ≡ true → slice_get ps 0 ≡ Some part
 first_part part [] h = absurd (false≢true h)
 first_part part (x ∷ xs) h = ap Some (eqb-true x part h)
 
-initial : (k : Kind) (ps : List ℕ) (r : ℕ) → initialises k ps r ≡ true → (k ≡ kind.InitDeclarator) × (slice_get ps 0 ≡ Some r)
+pub initial : (k : Kind) (ps : List ℕ) (r : ℕ) → initialises k ps r ≡ true → (k ≡ kind.InitDeclarator) × (slice_get ps 0 ≡ Some r)
 initial kind.InitDeclarator ps r h = (refl, first_part r ps h)
 initial k ps r h = absurd (false≢true h)
 
-raised_is : (nodes : List Node) (above : List (Option ℕ)) (r q : ℕ) → (raised nodes above r q ≡ r) ⊎ ((a : ℕ) × ((raised nodes above r q ≡ a) × IsInitialised nodes a r q))
+pub raised_is : (nodes : List Node) (above : List (Option ℕ)) (r q : ℕ) → (raised nodes above r q ≡ r) ⊎ ((a : ℕ) × ((raised nodes above r q ≡ a) × IsInitialised nodes a r q))
 raised_is nodes above r q = over (slice_index_or above r None) refl
   where
     over : (o : Option ℕ) → slice_index_or above r None ≡ o → (raised nodes above r q ≡ r) ⊎ ((a : ℕ) × ((raised nodes above r q ≡ a) × IsInitialised nodes a r q))
@@ -124,28 +111,14 @@ function_of d e type other qs rs row more f h = by d (h ∙ ap (λ z. outline (t
     by TypeName g = absurd cc
     by Unclear g = absurd cc
 
-entity_is : (b : Bool) (o : Option ℕ) (k : ℕ) → (if b then o else None) ≡ Some k → o ≡ Some k
-entity_is true o k e = e
-entity_is false o k e = absurd cc
-
-no_init : (k : Kind) → k ≡ kind.InitDeclarator → is_declarator k ≡ true → ⊥
+pub no_init : (k : Kind) → k ≡ kind.InitDeclarator → is_declarator k ≡ true → ⊥
 no_init k e h = false≢true (ap is_declarator (sym e) ∙ h)
 
-module _ (file : List ℕ) (t : Typed) (it : IsUnitOfFile file t) (shaped : IsShaped it.checked.by.tree) (sighted : AreSighted it.checked.by.tree) where
-  abbrev made_by : IsTypedBy file it.unit it.names it.checked.checked t
-  made_by = it.checked.by
-
-  abbrev typing : Typing
-  typing = it.checked.checked.whole.typing
-
-  abbrev shapes : List Shape
-  shapes = it.checked.checked.table
-
-  abbrev tree : Tree
-  tree = made_by.tree
+module _ (file : List ℕ) (t : Typed) (it : IsUnitOfFile file t) where
+  open it use {made_by, typing, shapes, tree}
 
   function_at : (p : ℕ) → DeclaresFunction typing p → IsFunction tree shapes typing p
-  function_at p f = functions tree it.checked.checked.texts shapes typing (is_typing file t it shaped) (holds file t it shaped) p f.0 f.1.0 f.1.1
+  function_at p f = functions tree it.checked.checked.texts shapes typing (is_typing file t it) (holds file t it) p f.0 f.1.0 f.1.1
 
   same_function : (p q : ℕ) → DeclaresFunction typing q → outline (now_at shapes typing p) ≡ outline (now_at shapes typing q) → DeclaresFunction typing p
   same_function p q f e =
@@ -166,8 +139,8 @@ module _ (file : List ℕ) (t : Typed) (it : IsUnitOfFile file t) (shaped : IsSh
     -- where the declaration before is read from a node, this has the outline of the later declaration
     alike_at : (a : ℕ) → same_at tree q ≡ Some a → a < q → is_known (now_at shapes typing a) ≡ true → outline (now_at shapes typing a) ≡ outline (now_at shapes typing q)
     alike_at a same below known =
-        declarations_alike tree it.checked.checked.texts shapes typing (is_typing file t it shaped) (holds file t it shaped) q a one (function_at q f).linked
-        (ap (λ ns. (declarator_of ns q).name) (sym (nodes_are file t it shaped)) ∙ v.is.name) same below known (value_is_known file t it shaped sighted one v)
+        declarations_alike tree it.checked.checked.texts shapes typing (is_typing file t it) (holds file t it) q a one (function_at q f).linked
+        (ap (λ ns. (declarator_of ns q).name) (sym (nodes_are file t it)) ∙ v.is.name) same below known (value_is_known file t it one v)
 
     read : same_at tree q ≡ Some (raised it.unit.nodes it.checked.checked.surroundings.above r q)
     read = columns_find file t it one other v.declaration q w.declaration r v.node w.node v.is w.is last
@@ -177,9 +150,9 @@ module _ (file : List ℕ) (t : Typed) (it : IsUnitOfFile file t) (shaped : IsSh
     never a same x =
         let at : slice_get tree.nodes.now a ≡ Some x.node = ap (λ ns. slice_get ns a) made_by.is.whole.tree.nodes ∙ x.at in
         let here : slice_get t.nodes a ≡ Some x.node = ap (λ ns. slice_get ns a) made_by.elaborated.nodes_are ∙ x.at in
-        let o = owned file t it shaped other w.declaration r w.node w.is in
-        let declaration : declaration_of tree.nodes.now tree.above.now a ≡ Some w.declaration = sym (shaped.initialised a r x.node at x.is x.first) ∙ o.declaration in
-        let known = is_known_there file t it shaped w.declaration w.node w.is.at w.is.external a x.node here (ap declares_name x.is) declaration (types_known file t it shaped sighted)
+        let o = owned file t it other w.declaration r w.node w.is in
+        let declaration : declaration_of tree.nodes.now tree.above.now a ≡ Some w.declaration = sym ((shaped file t it).initialised a r x.node at x.is x.first) ∙ o.declaration in
+        let known = is_known_there file t it w.declaration w.node w.is.at w.is.external a x.node here (ap declares_name x.is) declaration (types_known file t it)
         (no_type (storage_of t.nodes w.node.parts) (declarator_of t.nodes r).next w.value) in
         let is = function_at a (same_function a q f (alike_at a same x.below known)) in
         let one_node : Some is.node ≡ Some x.node = sym is.at ∙ at in
@@ -193,7 +166,7 @@ module _ (file : List ℕ) (t : Typed) (it : IsUnitOfFile file t) (shaped : IsSh
     ]
 
     alike : outline (now_at shapes typing r) ≡ outline (now_at shapes typing q)
-    alike = alike_at r same_is rises (value_is_known file t it shaped sighted other w)
+    alike = alike_at r same_is rises (value_is_known file t it other w)
 
     declares_function : DeclaresFunction typing r
     declares_function = same_function r q f alike
@@ -202,7 +175,7 @@ module _ (file : List ℕ) (t : Typed) (it : IsUnitOfFile file t) (shaped : IsSh
     directly_behind = record { declares = declares_function; function = function_at r declares_function; follows = directly same_is rises; alike = alike }
 
     name_is : (declarator_of tree.nodes.now r).name ≡ Some other
-    name_is = ap (λ ns. (declarator_of ns r).name) (sym (nodes_are file t it shaped)) ∙ w.is.name
+    name_is = ap (λ ns. (declarator_of ns r).name) (sym (nodes_are file t it)) ∙ w.is.name
 
     further : (s : ℕ) → IsBehind file t it r s → IsBehind file t it q s
     further s x = record { declares = x.declares; function = x.function; follows = behind r other same_is rises (function_at r declares_function) name_is x.follows; alike = x.alike ∙ alike }
@@ -231,8 +204,8 @@ module _ (file : List ℕ) (t : Typed) (it : IsUnitOfFile file t) (shaped : IsSh
   -- a declarator of a function has no `typedef`
   value_of : (token i q : ℕ) (m : Node) → IsDeclarer t.nodes token i q m → DeclaresFunction typing q → is_value (role_by (storage_of t.nodes m.parts) (declarator_of t.nodes q).next) ≡ true
   value_of token i q m d f =
-      let o = owned file t it shaped token i q m d in
-      value_is (storage_of t.nodes m.parts) (declarator_of t.nodes q).next (function_plain file t it shaped i m d.at d.external q o.node o.at o.names o.declaration f)
+      let o = owned file t it token i q m d in
+      value_is (storage_of t.nodes m.parts) (declarator_of t.nodes q).next (function_plain file t it i m d.at d.external q o.node o.at o.names o.declaration f)
 
   follows_at : (one other k i q j r : ℕ) (m n : Node) → IsDeclarer t.nodes one i q m → IsDeclarer t.nodes other j r n → declared_entity it.names one ≡ Some k → declared_entity it.names other ≡ Some k
       → DeclaresFunction typing q → other < one → IsBehind file t it q r
@@ -243,13 +216,13 @@ module _ (file : List ℕ) (t : Typed) (it : IsUnitOfFile file t) (shaped : IsSh
       chain (suc one) one other k (omega arith) less mine its v (record { declaration = j; declarator = r; node = n; is = e; value = ap is_value role ∙ x.value }) f
 
   named_in : (token i q : ℕ) (m : Node) → IsDeclarer t.nodes token i q m → (declarator_of tree.nodes.now q).name ≡ Some token
-  named_in token i q m d = ap (λ ns. (declarator_of ns q).name) (sym (nodes_are file t it shaped)) ∙ d.name
+  named_in token i q m d = ap (λ ns. (declarator_of ns q).name) (sym (nodes_are file t it)) ∙ d.name
 
   -- a definition has a body
   defines : (token i q : ℕ) (m : Node) → IsDeclarer t.nodes token i q m → m.kind ≡ kind.FunctionDefinition → (does_at tree shapes typing q).defines ≡ true
   defines token i q m d is =
-      let o = owned file t it shaped token i q m d in
-      ap (λ x. is_body_behind (kind_in tree.nodes.now x)) o.declaration ∙ ap (λ x. is_body_behind (kind_if x)) (there file t it shaped i m d.at) ∙ ap (λ k. is_body_behind (Some k)) is
+      let o = owned file t it token i q m d in
+      ap (λ x. is_body_behind (kind_in tree.nodes.now x)) o.declaration ∙ ap (λ x. is_body_behind (kind_if x)) (there file t it i m d.at) ∙ ap (λ k. is_body_behind (Some k)) is
 
   -- of two definitions none is behind the other
   no_second : (one other k i q j r : ℕ) (m n : Node) → IsDeclarer t.nodes one i q m → IsDeclarer t.nodes other j r n → declared_entity it.names one ≡ Some k → declared_entity it.names other ≡ Some k
@@ -259,22 +232,22 @@ module _ (file : List ℕ) (t : Typed) (it : IsUnitOfFile file t) (shaped : IsSh
       false≢true (sym (defined_once tree shapes typing q r one (function_at q f) (named_in one i q m d) x.function x.follows (defines other j r n e earlier)) ∙ defines one i q m d own)
 
 pub follow : Laws.DeclarationsFollow
-follow file t it shaped sighted one other k i q j r m n d e mine its f less = follows_at file t it shaped sighted one other k i q j r m n d e mine its f less
+follow file t it one other k i q j r m n d e mine its f less = follows_at file t it one other k i q j r m n d e mine its f less
 
 pub one_body : Laws.FunctionsHaveOneBody
-one_body file t it shaped sighted one other k i q j r m n d e mine its own earlier = elim (cases_lt other one) [
-  | inl less ↦ absurd (no_second file t it shaped sighted one other k i q j r m n d e mine its (definition_declares file t it shaped one i q m d own) own earlier less)
+one_body file t it one other k i q j r m n d e mine its own earlier = elim (cases_lt other one) [
+  | inl less ↦ absurd (no_second file t it one other k i q j r m n d e mine its (definition_declares file t it one i q m d own) own earlier less)
   | inr le ↦ elim (cases_lt one other) [
-    | inl more ↦ absurd (no_second file t it shaped sighted other one k j r i q n m e d its mine (definition_declares file t it shaped other j r n e earlier) earlier own more)
+    | inl more ↦ absurd (no_second file t it other one k j r i q n m e d its mine (definition_declares file t it other j r n e earlier) earlier own more)
     | inr ge ↦ omega (arith, le, ge)
   ]
 ]
 
 pub one_outline : Laws.FunctionsAreOfOneOutline
-one_outline file t it shaped sighted one other k i q j r m n d e mine its f g differ = elim (cases_lt other one) [
-  | inl less ↦ sym (follows_at file t it shaped sighted one other k i q j r m n d e mine its f less).alike
+one_outline file t it one other k i q j r m n d e mine its f g differ = elim (cases_lt other one) [
+  | inl less ↦ sym (follows_at file t it one other k i q j r m n d e mine its f less).alike
   | inr le ↦ elim (cases_lt one other) [
-    | inl more ↦ (follows_at file t it shaped sighted other one k j r i q n m e d its mine g more).alike
+    | inl more ↦ (follows_at file t it other one k j r i q n m e d its mine g more).alike
     | inr ge ↦ absurd (differ (omega (arith, le, ge)))
   ]
 ]

@@ -7,9 +7,7 @@ use Rattle.cr_syntax.specs.declared.node.Kind.{Kind}
 use Rattle.cr_syntax.specs.declared.node.Kind.TheVariants as kind
 use Rattle.cr_syntax.specs.declared.node.Node.{Node}
 use Rattle.cr_syntax.specs.declared.part.Part.TheVariants as part
-use Rattle.cr_syntax.specs.Tables.{rule_of, side_of}
-use Rattle.cr_syntax.specs.Words.{Lexeme}
-use Rattle.cr_syntax.specs.Trees.{Trees, node as tree_node}
+use Rattle.cr_syntax.specs.Tables.{side_of}
 use Rattle.cr_syntax.specs.Kept.{row_in}
 use Rattle.cr_syntax.proofs.Arena.{row_at}
 use Rattle.cr_syntax_nodes.specs.Laid.{stands_for, IsLaid}
@@ -17,14 +15,13 @@ use Rattle.cr_scopes_events.specs.declared.naming.Storage.{Storage as Word}
 use Rattle.cr_scopes_events.specs.declared.naming.Storage.TheVariants.{NoWord}
 use Rattle.cr_scopes_events.specs.Values.{before}
 use Rattle.cr_scopes_events.specs.declared.declarator.Declarator.{Declarator as Named}
-use Rattle.cr_scopes_events.specs.Declarators.{nowhere, declared_by as names_by, declared_if, declarator_of}
+use Rattle.cr_scopes_events.specs.Declarators.{nowhere, declared_if, declarator_of}
 use Rattle.cr_scopes_events.proofs.Descents.{declarator_ruled}
 use Rattle.cr_scopes_events.specs.Scripts as scripts
 use Rattle.cr_scopes_events.specs.Scripts.{with_word, words_of, storage_of}
 use Rattle.cr_scopes_linkage.specs.Shared.Origins.{is_external, IsDeclarer}
 use Rattle.cr_syntax.specs.declared.ctype.CType.{CType}
 use Rattle.cr_syntax.specs.declared.ctype.CType.TheVariants.{Unknown}
-use Rattle.cr_check_types.specs.declared.shape.Shape.{Shape}
 use Rattle.cr_check_types.specs.Types.{Qualified, plain, pointer, array, type_at}
 use Rattle.cr_check_expressions.specs.declared.least.Break.{Break}
 use Rattle.cr_check_expressions.specs.declared.known.Declared.TheVariants.{TypeName, Unclear, Function}
@@ -35,15 +32,14 @@ use Rattle.cr_check_declarators.specs.declared.words.Class.{Class}
 use Rattle.cr_check_declarators.specs.declared.declarator.Declarator.{Declarator}
 use Rattle.cr_check_declarators.specs.declared.enumerators.Enumerated.{Enumerated}
 use Rattle.cr_check_declarators.specs.Specifiers.{nothing, specified_by, both_storages, storage_by, inline_fault_of}
-use Rattle.cr_check_declarations.specs.declared.tree.Tree.{Tree}
 use Rattle.cr_check_declarations.specs.Before.{kind_if, parts_if, Before, declarator_in, specified_in, first_in}
 use Rattle.cr_check_declarations.specs.Specifiers.{declares_by, are_specifiers, joined_in}
 use Rattle.cr_check_declarations.specs.Named.{is_declarator, is_declaration, is_initialised, declaration_of, specifiers_in, class_of, value_by, ordinary_by, ordinary_of, names_ordinary, declares_name, declared_by, is_variadic, parameter_nodes}
 use Rattle.cr_check_linkage.specs.NameTypes.{is_known, type_as}
-use Rattle.cr_check_unit.specs.declared.typing.Typing.{Typing}
 use Rattle.cr_check_unit.specs.Typing.{cut, entry_at, before_in, IsRuled, IsTyping}
 use Rattle.cr_check_unit.specs.Breaks.{IsBroken}
 use Rattle.cr_check_signatures.specs.Functions.Linked.{now_at}
+use Rattle.cr_check_signatures.proofs.ParametersLemmas.Listed.{names_declare}
 use Rattle.std.specs.Option.{is_some}
 use Rattle.cr_check_declarations.specs.Faults.{has_at, definition_faults, faults_in, name_or, name_in, list_in, is_nameless, parameter_faults, fault_at}
 use Rattle.cr_meaning_typing.specs.Typed.Laws.{HoldsAll}
@@ -51,26 +47,27 @@ use Rattle.cr_meaning_typing.proofs.TypedLemmas.Worth.{unbroken}
 use Rattle.cr_check_enclosing.specs.declared.context.Place.TheVariants as place
 use Rattle.cr_check_expressions.specs.Breaks.{fault}
 use Rattle.cr_typed.specs.declared.typed.Typed.{Typed}
-use Rattle.cr_typed_unit.specs.Typed.{IsTypedBy}
 use Rattle.cr_meaning_typing.specs.Typed.Typing.{has_value}
-use Rattle.cr_meaning_declarations.specs.Units.Owned.{AreOfUnit}
 use Rattle.cr_meaning_declarations.proofs.UnitsLemmas.Handing.{laid_at}
-use Rattle.cr_meaning_types.specs.Known.Shaped.{is_single, fits, IsPart, IsShaped}
-use Rattle.cr_meaning_types.specs.Known.Sighted.{AreSighted}
+use Rattle.cr_meaning_types.specs.Known.Shaped.{is_single, fits, IsPart}
 use Rattle.cr_meaning_types.specs.Known.Known.{AllTyped, AreKnown}
 use Rattle.cr_meaning_types.proofs.KnownLemmas.Naming.{declaration_here, ruled, specified_early, holds_all, declarator_early}
 use Rattle.cr_meaning_types.proofs.KnownLemmas.Declaring.{has_specifiers, there_is, unplaced}
 use Rattle.cr_meaning_types.proofs.KnownLemmas.Known.{known}
+use Rattle.cr_meaning_types.proofs.KnownLemmas.Sizes.{declarator_names}
 use Rattle.cr_meaning_declarations.specs.Declared.Files.{IsUnitOfFile}
-use Rattle.cr_meaning_declarations.proofs.DeclaredLemmas.Nodes.{of_unit}
 use Rattle.cr_meaning_declarations.specs.Linked.Laws.{DeclaresValue}
+use Rattle.cr_meaning_declarations.proofs.DeclaredLemmas.Files.{has_unit}
+use Rattle.cr_meaning_declarations.proofs.DeclaredLemmas.Once.{no_plain, begins_with}
 use Rattle.cr_meaning_composites.specs.Chained.Laws
 use Rattle.cr_meaning_composites.specs.Chained.Laws.{DeclaresFunction}
 use Rattle.cr_meaning_composites.proofs.ChainedLemmas.Words.{is_type, says, no_type, step, steps, Held, held_word, held_words, refused}
+use Rattle.cr_meaning_references.proofs.TreesLemmas.Shaped.{shaped}
+use Rattle.cr_meaning_references.proofs.TreesLemmas.Sighted.{sighted}
 
 -- ---- kinds
 
-single_plain : (k : Kind) → is_single k ≡ true → are_specifiers k ≡ false
+pub single_plain : (k : Kind) → is_single k ≡ true → are_specifiers k ≡ false
 single_plain kind.Specifiers h = absurd (false≢true h)
 single_plain kind.PlainSpecifiers h = absurd (false≢true h)
 single_plain k h = refl
@@ -80,33 +77,10 @@ external_is kind.Declaration h = (refl, (refl, refl))
 external_is kind.FunctionDefinition h = (refl, (refl, refl))
 external_is k h = absurd (false≢true h)
 
-begins_with : (of : Kind) → is_external of ≡ true → (ts : List Lexeme) (k : Kind) (a b : ℕ) (v u : Trees) (i j : ℕ) → IsLaid ts (side_of of) (tree_node k a b v u) i j → stands_for part.Specifiers k ≡ true
-unfolding rule_of
-begins_with kind.Declaration h ts k a b v u i j l = l.0.0
-begins_with kind.FunctionDefinition h ts k a b v u i j l = l.0.0
-begins_with of h ts k a b v u i j l = absurd (false≢true h)
-
-no_plain : (k : Kind) → stands_for part.Specifiers k ≡ true → k ≡ kind.PlainSpecifiers → ⊥
-unfolding rule_of
-no_plain k h e = false≢true (subst (λ (x : Kind). stands_for part.Specifiers x ≡ true) e h)
-
--- what has a declared name is a declarator
-names_declare : (k : Kind) (at : ℕ → Named) (i : ℕ) (n : Node) (token : ℕ) → (names_by k at i n).name ≡ Some token → is_declarator k ≡ true
-names_declare kind.NameDeclarator at i n token e = refl
-names_declare kind.GroupDeclarator at i n token e = refl
-names_declare kind.PointerDeclarator at i n token e = refl
-names_declare kind.ArrayDeclarator at i n token e = refl
-names_declare kind.FunctionDeclarator at i n token e = refl
-names_declare k at i n token e = absurd cc
-
 pub is_named_declarator : (nodes : List Node) (i token : ℕ) (n : Node) → slice_get nodes i ≡ Some n → (declarator_of nodes i).name ≡ Some token → is_declarator n.kind ≡ true
 is_named_declarator nodes i token n at e =
     names_declare n.kind (before nowhere i (declarator_of nodes)) i n token
     (ap (λ o. (declared_if o (before nowhere i (declarator_of nodes)) i).name) (sym at) ∙ ap (λ (d : Named). d.name) (sym (declarator_ruled nodes i)) ∙ e)
-
-pub declarator_names : (k : Kind) → is_declarator k ≡ true → declares_name k ≡ true
-declarator_names kind.InitDeclarator e = refl
-declarator_names k e = e
 
 -- ---- known types
 
@@ -130,7 +104,7 @@ value_known nodes c (Some f) row type qs h all = let one = worth_type type h in 
 -- ---- what is asked of definitions
 
 -- K10: a body stands behind a declarator that makes a function
-function_there : (b : Before) (nodes : List Node) (i : ℕ) (said : Specified) (declarator function : Option ℕ) → HoldsAll (definition_faults b nodes i said declarator function) → is_some function ≡ true
+pub function_there : (b : Before) (nodes : List Node) (i : ℕ) (said : Specified) (declarator function : Option ℕ) → HoldsAll (definition_faults b nodes i said declarator function) → is_some function ≡ true
 function_there b nodes i said declarator function h =
     not-false (is_some function)
     (unbroken 10 (name_or (name_in nodes declarator) (first_in nodes declarator)) (not (is_some function))
@@ -147,25 +121,13 @@ storage_there b nodes i said declarator function h =
 
 -- ---- what a declarator declares
 
-declares_by_kind : (k : Kind) (nodes : List Node) (said : ℕ → Specified) (own : Declarator) (row : ℕ) (e : Option Enumerated) (d : Option ℕ) → declares_name k ≡ true → declared_by k nodes said own row e d ≡ ordinary_of nodes said own row d
+pub declares_by_kind : (k : Kind) (nodes : List Node) (said : ℕ → Specified) (own : Declarator) (row : ℕ) (e : Option Enumerated) (d : Option ℕ) → declares_name k ≡ true → declared_by k nodes said own row e d ≡ ordinary_of nodes said own row d
 declares_by_kind kind.Enumerator nodes said own row e d h = absurd (false≢true h)
 declares_by_kind k nodes said own row e d h = ap (λ b. if b then ordinary_of nodes said own row d else Unclear) h
 
-module _ (file : List ℕ) (t : Typed) (it : IsUnitOfFile file t) (shaped : IsShaped it.checked.by.tree) where
-  abbrev pub made_by : IsTypedBy file it.unit it.names it.checked.checked t
-  made_by = it.checked.by
-
-  abbrev pub typing : Typing
-  typing = it.checked.checked.whole.typing
-
-  abbrev pub shapes : List Shape
-  shapes = it.checked.checked.table
-
-  abbrev pub tree : Tree
-  tree = made_by.tree
-
-  unit : AreOfUnit t
-  unit = of_unit file t it
+module _ (file : List ℕ) (t : Typed) (it : IsUnitOfFile file t) where
+  open it use {made_by, typing, shapes, tree}
+  open has_unit file t it use {unit}
 
   pub nodes_are : t.nodes ≡ tree.nodes.now
   nodes_are = made_by.elaborated.nodes_are ∙ sym made_by.is.whole.tree.nodes
@@ -218,7 +180,7 @@ module _ (file : List ℕ) (t : Typed) (it : IsUnitOfFile file t) (shaped : IsSh
           ap (λ ws. is_type (fold (λ storage word. with_word storage (scripts.kind_at t.nodes word)) NoWord ws)) words
           ∙ steps (scripts.kind_at t.nodes) early m.parts NoWord nothing
           (λ k p e v st h.
-          let x = shaped.parts s m (there s m at) k p e in
+          let x = (shaped file t it).parts s m (there s m at) k p e in
           let alone : is_single x.own.kind ≡ true = ap (λ y. fits y k x.own.kind) (sym is) ∙ x.fits in
           one_step early p x.own (ap (λ ns. slice_get ns p) nodes_are ∙ x.at) (single_plain x.own.kind alone) (specified_early tree it.checked.checked.texts shapes typing is_typing holds s m (there s m at) p x.below) v st h) refl
           ∙ ap (λ (x : Specified). says x.storage) (sym own)
@@ -241,12 +203,12 @@ module _ (file : List ℕ) (t : Typed) (it : IsUnitOfFile file t) (shaped : IsSh
     pub say : is_type (storage_of t.nodes m.parts) ≡ says (said specifiers).storage
 
   pub words : (i : ℕ) (m : Node) → slice_get t.nodes i ≡ Some m → is_external m.kind ≡ true → HasWords i m
-  words i m at external = by m.parts refl (there_is (slice_get m.parts 0) (shaped.filled i m (there i m at) 0 (has_specifiers m.kind (external_is m.kind external).1.0).filled))
+  words i m at external = by m.parts refl (there_is (slice_get m.parts 0) ((shaped file t it).filled i m (there i m at) 0 (has_specifiers m.kind (external_is m.kind external).1.0).filled))
     where
       by : (ps : List ℕ) → m.parts ≡ ps → (x : ℕ) × (slice_get m.parts 0 ≡ Some x) → HasWords i m
       by [] e x = let never : None ≡ Some x.0 = sym (ap (λ l. slice_get l 0) e) ∙ x.1 in absurd cc
       by (s ∷ rest) e x =
-          let part = shaped.parts i m (there i m at) 0 s (ap (λ l. slice_get l 0) e) in
+          let part = (shaped file t it).parts i m (there i m at) 0 s (ap (λ l. slice_get l 0) e) in
           let here : slice_get t.nodes s ≡ Some part.own = ap (λ ns. slice_get ns s) nodes_are ∙ part.at in
           let row = ap (row_in t.nodes) e ∙ row_at t.nodes unit.below s part.own rest here in
           let stands = begins_with m.kind external unit.tokens part.own.kind part.own.first (part.own.last + 1) (row_in t.nodes part.own.parts) (row_in t.nodes rest) m.first (m.last + 1)
@@ -272,7 +234,7 @@ module _ (file : List ℕ) (t : Typed) (it : IsUnitOfFile file t) (shaped : IsSh
     declared_is =
         let early = (before_in shapes (cut p typing)).specified in
         let row = (entry_at typing p).own.named in
-        let low : w.specifiers < p = shaped.ordered p i w.specifiers n (there p n here) names of specifiers_are in
+        let low : w.specifiers < p = (shaped file t it).ordered p i w.specifiers n (there p n here) names of specifiers_are in
         (ruled tree it.checked.checked.texts shapes typing is_typing holds p n (there p n here)).declared
         ∙ declares_by_kind n.kind tree.nodes.now early own row (entry_at typing p).own.enumerated (declaration_of tree.nodes.now tree.above.now p) names
         ∙ ap (ordinary_of tree.nodes.now early own row) of
@@ -314,7 +276,7 @@ module _ (file : List ℕ) (t : Typed) (it : IsUnitOfFile file t) (shaped : IsSh
   owned token i q m d = by d.declares
     where
       part_is : IsPart tree i m (suc d.place) d.part
-      part_is = shaped.parts i m (there i m d.at) (suc d.place) d.part d.is
+      part_is = (shaped file t it).parts i m (there i m d.at) (suc d.place) d.part d.is
 
       above_it : declaration_of tree.nodes.now tree.above.now d.part ≡ Some i
       above_it = let x = external_is m.kind d.external in declaration_here tree.nodes.now tree.above.now d.part i m part_is.above (there i m d.at) x.0 x.1.0
@@ -331,8 +293,8 @@ module _ (file : List ℕ) (t : Typed) (it : IsUnitOfFile file t) (shaped : IsSh
           let kind_is : Some part_is.own.kind ≡ Some kind.InitDeclarator = ap scripts.kind_if (sym at) ∙ init.0 in
           let is : part_is.own.kind ≡ kind.InitDeclarator = cc in
           let first : slice_get part_is.own.parts 0 ≡ Some q = ap (λ o. slice_get (scripts.parts_if o) 0) (sym at) ∙ init.1 in
-          let inner = shaped.parts d.part part_is.own part_is.at 0 q first in
-          made inner.own (ap (λ ns. slice_get ns q) nodes_are ∙ inner.at) (shaped.initialised d.part q part_is.own part_is.at is first ∙ above_it)
+          let inner = (shaped file t it).parts d.part part_is.own part_is.at 0 q first in
+          made inner.own (ap (λ ns. slice_get ns q) nodes_are ∙ inner.at) ((shaped file t it).initialised d.part q part_is.own part_is.at is first ∙ above_it)
 
   -- ---- definitions
 
@@ -362,7 +324,7 @@ module _ (file : List ℕ) (t : Typed) (it : IsUnitOfFile file t) (shaped : IsSh
           subst (λ (x : Specified). Held x.storage) (sym (said_is s m at true q))
           (held_words early m.parts nothing
           (λ k p e.
-          let x = shaped.parts s m at k p e in
+          let x = (shaped file t it).parts s m at k p e in
           subst (λ (y : Specified). Held y.storage) (sym (specified_early tree it.checked.checked.texts shapes typing is_typing holds s m at p x.below))
           (alone p x.own x.at (single_plain x.own.kind (several_fits m.kind k x.own.kind q x.fits)))) tt)
 
@@ -389,7 +351,7 @@ module _ (file : List ℕ) (t : Typed) (it : IsUnitOfFile file t) (shaped : IsSh
       second = subst (λ x. slice_get m.parts (suc x) ≡ Some d.part) (d.first is) d.is
 
       part_is : IsPart tree i m 1 d.part
-      part_is = shaped.parts i m here 1 d.part second
+      part_is = (shaped file t it).parts i m here 1 d.part second
 
       declarator_is : is_declarator part_is.own.kind ≡ true
       declarator_is = ap (λ k. fits k 1 part_is.own.kind) (sym is) ∙ part_is.fits
@@ -416,7 +378,7 @@ module _ (file : List ℕ) (t : Typed) (it : IsUnitOfFile file t) (shaped : IsSh
       untyped = by (says (said w.specifiers).storage) refl
         where
           first_is : IsPart tree i m 0 w.specifiers
-          first_is = shaped.parts i m here 0 w.specifiers w.first
+          first_is = (shaped file t it).parts i m here 0 w.specifiers w.first
 
           none : is_some (storage_by place.Definition (is_some (defined_as i m)) (said w.specifiers).storage) ≡ false
           none =
@@ -443,17 +405,16 @@ module _ (file : List ℕ) (t : Typed) (it : IsUnitOfFile file t) (shaped : IsSh
 
   -- ---- types are known
 
-  module _ (sighted : AreSighted tree) where
-    pub types_known : AreKnown tree shapes typing
-    types_known = known tree it.checked.checked.texts shapes typing is_typing holds shaped sighted
+  pub types_known : AreKnown tree shapes typing
+  types_known = known tree it.checked.checked.texts shapes typing is_typing holds (shaped file t it) (sighted file t it)
 
-    pub value_is_known : (token : ℕ) (v : DeclaresValue t.nodes token) → is_known (now_at shapes typing v.declarator) ≡ true
-    value_is_known token v =
-        let o = owned token v.declaration v.declarator v.node v.is in
-        is_known_there v.declaration v.node v.is.at v.is.external v.declarator o.node o.at o.names o.declaration types_known (no_type (storage_of t.nodes v.node.parts) (declarator_of t.nodes v.declarator).next v.value)
+  pub value_is_known : (token : ℕ) (v : DeclaresValue t.nodes token) → is_known (now_at shapes typing v.declarator) ≡ true
+  value_is_known token v =
+      let o = owned token v.declaration v.declarator v.node v.is in
+      is_known_there v.declaration v.node v.is.at v.is.external v.declarator o.node o.at o.names o.declaration types_known (no_type (storage_of t.nodes v.node.parts) (declarator_of t.nodes v.declarator).next v.value)
 
 pub known_is : Laws.ValuesAreKnown
-known_is file t it shaped sighted token v = value_is_known file t it shaped sighted token v
+known_is file t it token v = value_is_known file t it token v
 
 pub definitions : Laws.DefinitionsDeclareFunctions
-definitions file t it shaped token i q m d is = definition_declares file t it shaped token i q m d is
+definitions file t it token i q m d is = definition_declares file t it token i q m d is

@@ -16,8 +16,9 @@ use Rattle.cr_check_declarators.specs.declared.words.Class.{Class}
 use Rattle.cr_check_declarators.specs.declared.words.Class.TheVariants as class
 use Rattle.cr_check_declarators.specs.declared.words.Storage.{Storage}
 use Rattle.cr_check_declarators.specs.declared.words.Specified.{Specified}
-use Rattle.cr_check_declarators.specs.Specifiers.{is_typedef_word, specified_by, first_of, both_storages, joined_of, may_stand, storage_by}
+use Rattle.cr_check_declarators.specs.Specifiers.{is_typedef_word, specified_by, both_storages, joined_of, may_stand, storage_by}
 use Rattle.cr_check_declarations.specs.Named.{class_of, is_typedef}
+use Rattle.cr_meaning_types.proofs.KnownLemmas.Classes.{first_some, or_right as or_true}
 
 abbrev pub is_type : Word → Bool
 is_type TypedefWord = true
@@ -47,10 +48,6 @@ no_type NoWord next e = refl
 or_false : (a b : Bool) → b ≡ false → (a || b) ≡ a
 or_false true b e = refl
 or_false false b e = e
-
-or_true : (a b : Bool) → b ≡ true → (a || b) ≡ true
-or_true true b e = refl
-or_true false b e = e
 
 joined : (a b : Storage) → b.typedefs ≡ false → says (both_storages (Some a) (Some b)) ≡ says (Some a)
 joined a b e = ap (λ x. is_typedef (if x then Some class.Typedef else Some a.class)) (or_false a.typedefs b.typedefs e)
@@ -109,10 +106,6 @@ steps kind_at at [] w said f h = h
 steps kind_at at (p ∷ ps) w said f h = steps kind_at at ps (with_word w (kind_at p)) (joined_of said (at p)) (λ k q e v st g. f (suc k) q e v st g) (f 0 p refl w said.storage h)
 
 -- ---- `typedef` among storage classes
-
-first_some : (o : Option ℕ) (token : ℕ) → is_some (first_of o (Some token)) ≡ true
-first_some None token = refl
-first_some (Some x) token = refl
 
 -- it is the one class, or there are several
 abbrev pub Held : Option Storage → Type 0

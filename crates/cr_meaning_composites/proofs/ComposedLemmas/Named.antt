@@ -1,65 +1,51 @@
 -- The type of an object, which its first declaration has, is the composite at its last one (C11 6.2.7p3, p4).
 use Rattle.std.proofs.Common.{◌≡◌, ℕ, suc, ◌+◌, ◌<◌, ◌≤◌, Bool, true, false, List, Option, None, Some, length, nat_lt, slice_get, slice_index_or, inl, inr, refl, sym, subst, ap, ◌∙◌, arith, if◌then◌else◌}
-use Rattle.std.proofs.lemmas.Bool.{cases_lt, false≢true, eqb-true, eq-eqb, lt-ltb, ltb-true}
-use Rattle.std.proofs.lemmas.List.{get_or-map}
-use Rattle.std.proofs.lemmas.Option.{slice_get_within}
+use Rattle.std.proofs.lemmas.Bool.{cases_lt, false≢true, eq-eqb, lt-ltb, ltb-true}
+use Rattle.std.proofs.lemmas.Option.{slice_get_within, same_Some}
 use Rattle.cr_syntax.specs.declared.node.Kind.{Kind}
 use Rattle.cr_syntax.specs.declared.node.Kind.TheVariants as kind
 use Rattle.cr_syntax.specs.declared.node.Node.{Node}
 use Rattle.cr_syntax.specs.Kept.{row_in}
-use Rattle.cr_syntax_order.specs.Listed.{AreListed}
 use Rattle.cr_syntax_nodes.specs.Nodes.{Rises}
 use Rattle.cr_syntax_nodes.proofs.Made.{made_in, rises}
-use Rattle.cr_syntax_nodes.proofs.Numbers.{some_at, occurs}
+use Rattle.cr_syntax_nodes.proofs.Numbers.{occurs}
 use Rattle.cr_syntax_nodes.proofs.Order.{in_order}
 use Rattle.cr_scopes_events.specs.declared.event.Role.{Role}
-use Rattle.cr_scopes_events.specs.declared.declarator.Declarator.{Declarator as Told}
-use Rattle.cr_scopes_events.specs.Values.{before}
-use Rattle.cr_scopes_events.specs.Declarators.{nowhere, declared_by as names_by, declared_if, declarator_of}
+use Rattle.cr_scopes_events.specs.Declarators.{declarator_of}
 use Rattle.cr_scopes_events.specs.Scripts as scripts
 use Rattle.cr_scopes_events.specs.Scripts.{storage_of}
 use Rattle.cr_scopes_events.specs.Events.{events_of}
-use Rattle.cr_scopes_events.proofs.Descents.{declarator_ruled}
-use Rattle.cr_scopes.specs.Resolved.{is_number, past_of}
+use Rattle.cr_scopes.specs.Resolved.{past_of}
 use Rattle.cr_scopes.specs.Spelled.{name_of as spelled_name}
 use Rattle.cr_scopes.specs.Units.{unit_events}
 use Rattle.cr_scopes_bindings.specs.Last.{last_with}
-use Rattle.cr_scopes_bindings.specs.Nodes.{named_by, named_if, name_at}
+use Rattle.cr_scopes_bindings.specs.Nodes.{named_by}
 use Rattle.cr_scopes_bindings.specs.Entities as bound
 use Rattle.cr_scopes_linkage.specs.Shared.Sorts.{Never}
 use Rattle.cr_scopes_linkage.specs.Shared.Origins.{is_external, IsDeclarer}
 use Rattle.cr_scopes_typedef_names.specs.Tellings.Tellings.{Telling, by_declaration, by_parameter, by_enumerator, by_tag, by_use}
 use Rattle.cr_scopes_typedef_names.proofs.TellingsLemmas.Scripts.{all_told}
-use Rattle.cr_check_types.specs.declared.shape.Shape.{Shape}
-use Rattle.cr_check_types.specs.Types.{Qualified, type_at, unknown}
+use Rattle.cr_check_types.specs.Types.{Qualified, type_at}
 use Rattle.cr_check_expressions.specs.declared.known.Declared.TheVariants.{Object, Function, TypeName, Unclear}
 use Rattle.cr_check_declarators.specs.declared.words.Class.{Class}
-use Rattle.cr_check_declarations.specs.declared.tree.Tree.{Tree}
 use Rattle.cr_check_declarations.specs.Named.{is_declarator, is_typedef, is_register, is_variadic, class_of, value_by}
-use Rattle.cr_check_unit.specs.declared.typing.Typing.{Typing}
 use Rattle.cr_check_unit.specs.Typing.{entry_at}
 use Rattle.cr_typed.specs.declared.typed.Typed.{Typed}
-use Rattle.cr_typed_columns.specs.declared.checked.CheckedColumns.{CheckedColumns}
 use Rattle.cr_typed_columns.specs.Reading.{Parsed, parsed_of, entry_of}
 use Rattle.cr_typed_columns.specs.Entities as entities
 use Rattle.cr_typed_columns.specs.Names as names
-use Rattle.cr_typed_unit.specs.Typed.{IsTypedBy}
 use Rattle.cr_meaning_operations.specs.Shapes.{named_type}
 use Rattle.cr_meaning_operations.specs.Operations.{entity_if, entity_of}
-use Rattle.cr_meaning_declarations.specs.Units.Owned.{AreOfUnit}
 use Rattle.cr_meaning_declarations.proofs.NamesLemmas.Leaves as leaves
-use Rattle.cr_meaning_declarations.proofs.NamesLemmas.Leaves.{is_named, named_once, name_alone}
-use Rattle.cr_meaning_declarations.proofs.NamesLemmas.Parents.{whole_is}
-use Rattle.cr_meaning_types.specs.Known.Shaped.{IsShaped}
-use Rattle.cr_meaning_types.specs.Known.Sighted.{AreSighted}
+use Rattle.cr_meaning_declarations.proofs.NamesLemmas.Leaves.{name_alone}
 use Rattle.cr_meaning_declarations.specs.Declared.Files.{IsUnitOfFile}
-use Rattle.cr_meaning_declarations.proofs.DeclaredLemmas.Nodes.{of_unit}
-use Rattle.cr_meaning_declarations.proofs.DeclaredLemmas.Bodies.{listed_at, last_has, name_there as kind_there, IsThere, node_of}
+use Rattle.cr_meaning_declarations.proofs.DeclaredLemmas.Bodies.{listed_at, last_has, name_there as kind_there, IsThere, node_of, type_is}
 use Rattle.cr_meaning_declarations.proofs.LastingLemmas.Begun.{begun_own}
 use Rattle.cr_meaning_declarations.specs.Linked.Laws.{DeclaresValue}
-use Rattle.cr_meaning_declarations.proofs.LinkedLemmas.Owned.{own_there, alone as in_no_other}
-use Rattle.cr_meaning_declarations.proofs.LinkedLemmas.Order.{there as node_there, order_of, in_order_is}
+use Rattle.cr_meaning_declarations.proofs.LinkedLemmas.Owned.{own_there}
+use Rattle.cr_meaning_declarations.proofs.LinkedLemmas.Order.{in_order_is}
 use Rattle.cr_meaning_declarations.proofs.LinkedLemmas.Sorts.{values_share}
+use Rattle.cr_meaning_declarations.proofs.DeclaredLemmas.Files.{has_unit}
 use Rattle.cr_meaning_composites.specs.Chained.Laws.{DeclaresFunction}
 use Rattle.cr_meaning_composites.proofs.ChainedLemmas.Words.{no_type}
 use Rattle.cr_meaning_composites.proofs.ChainedLemmas.Known.{words, owned, there, IsOwned}
@@ -68,26 +54,17 @@ use Rattle.cr_meaning_composites.specs.Objects.Laws.{DeclaresObject}
 use Rattle.cr_meaning_composites.proofs.ObjectsLemmas.Declaring.{is_silent, never_told, IsLast, last_there, entity_of_declared, few_of, declares_entity, first_declares, first_least}
 use Rattle.cr_meaning_composites.proofs.ObjectsLemmas.Alone.{declared_is}
 use Rattle.cr_meaning_composites.proofs.ObjectsLemmas.Objects.{value_there, follows_at}
-use Rattle.cr_meaning_composites.proofs.ObjectsLemmas.Statics.{role_speaks, tagged_same, use_same}
+use Rattle.cr_meaning_composites.proofs.ObjectsLemmas.Statics.{role_speaks, tagged_same, use_same, declarer_is}
 use Rattle.cr_meaning_composites.specs.Composed.Laws
 use Rattle.cr_meaning_composites.specs.Composed.Laws.{Becomes, IsObject}
 use Rattle.cr_meaning_composites.proofs.ComposedLemmas.Sizes.{becomes_itself, becomes_further}
 use Rattle.cr_meaning_composites.proofs.ComposedLemmas.Begun.{first_exists}
 use Rattle.cr_meaning_composites.proofs.ComposedLemmas.Apart.{stands_behind}
 use Rattle.cr_meaning_composites.proofs.ComposedLemmas.Steps.{own_becomes, initialised_object, initialised_becomes, behind_becomes, Next, chain_from, chain}
-
-some_same : {A : Type 0} (x y : A) → Some x ≡ Some y → x ≡ y
-some_same x y e = cc
-
-number_is : (o : Option ℕ) (k : ℕ) → is_number o k ≡ true → o ≡ Some k
-number_is None k h = absurd (false≢true h)
-number_is (Some j) k h = ap Some (eqb-true j k h)
+use Rattle.cr_meaning_references.proofs.TreesLemmas.Shaped.{shaped}
+use Rattle.cr_scopes_visibility.proofs.AloneLemmas.First.{number_same as number_is}
 
 -- ---- what tells a declared name
-
--- an enumerator has no declarator
-enumerator_nameless : (k : Kind) (at : ℕ → Told) (i : ℕ) (n : Node) (token : ℕ) → k ≡ kind.Enumerator → (names_by k at i n).name ≡ Some token → ⊥
-enumerator_nameless k at i n token e f = let never : None ≡ Some token = sym (ap (λ x. (names_by x at i n).name) e) ∙ f in cc
 
 -- what declares otherwise than by an initialised declarator
 external_plain : (k : Kind) → is_external k ≡ true → names.is_initialised (Some k) ≡ false
@@ -96,26 +73,8 @@ external_plain kind.FunctionDefinition h = refl
 external_plain k h = absurd (false≢true h)
 
 module _ (file : List ℕ) (t : Typed) (it : IsUnitOfFile file t) where
-  unit : AreOfUnit t
-  unit = of_unit file t it
-
-  order : AreListed t.nodes 0 t.items (length t.nodes)
-  order = order_of file t it
-
-  abbrev made_by : IsTypedBy file it.unit it.names it.checked.checked t
-  made_by = it.checked.by
-
-  abbrev typing : Typing
-  typing = it.checked.checked.whole.typing
-
-  abbrev shapes : List Shape
-  shapes = it.checked.checked.table
-
-  abbrev tree : Tree
-  tree = made_by.tree
-
-  abbrev columns : CheckedColumns
-  columns = made_by.columns
+  open it use {made_by, typing, shapes, tree, columns}
+  open has_unit file t it use {unit, order, nodes_are as same_nodes, count}
 
   abbrev parsed : Parsed
   parsed = parsed_of it.unit
@@ -132,19 +91,13 @@ module _ (file : List ℕ) (t : Typed) (it : IsUnitOfFile file t) where
   abbrev composite : ℕ → Qualified
   composite p = type_at shapes (slice_index_or typing.composites p 0)
 
-  same_nodes : it.unit.nodes ≡ t.nodes
-  same_nodes = sym made_by.elaborated.nodes_are
-
-  count : length t.nodes ≡ length it.unit.nodes
-  count = ap length made_by.elaborated.nodes_are
-
   -- ---- declared identifiers
 
-  record IsName (i token : ℕ) : Type 0 where
-    node : Node
-    at : slice_get t.nodes i ≡ Some node
-    is : node.kind ≡ kind.NameDeclarator
-    first : node.first ≡ token
+  pub record IsName (i token : ℕ) : Type 0 where
+    pub node : Node
+    pub at : slice_get t.nodes i ≡ Some node
+    pub is : node.kind ≡ kind.NameDeclarator
+    pub first : node.first ≡ token
 
   name_low : (i token : ℕ) → IsName i token → i < length t.nodes
   name_low i token y = slice_get_within t.nodes i y.node y.at
@@ -163,7 +116,7 @@ module _ (file : List ℕ) (t : Typed) (it : IsUnitOfFile file t) where
   name_there i token e =
       let n = node_of t unit order i kind.NameDeclarator (ap (λ ns. scripts.kind_at ns i) (sym same_nodes) ∙ kind_there it.unit.nodes i (subst IsThere (sym e) tt)) in
       let own : IsName i n.0.first = record { node = n.0; at = n.1.0; is = n.1.1; first = refl } in
-      record { node = n.0; at = n.1.0; is = n.1.1; first = some_same n.0.first token (sym (token_at i n.0.first own) ∙ e) }
+      record { node = n.0; at = n.1.0; is = n.1.1; first = same_Some n.0.first token (sym (token_at i n.0.first own) ∙ e) }
 
   token_few : (i token : ℕ) → IsName i token → token < tokens
   token_few i token y =
@@ -209,7 +162,7 @@ module _ (file : List ℕ) (t : Typed) (it : IsUnitOfFile file t) where
               ])
           | inr le ↦
               (let e : x ≡ y = omega (arith, ge, le) in
-              let same : m.node ≡ n.node = some_same m.node n.node (sym m.at ∙ ap (slice_get t.nodes) e ∙ n.at) in
+              let same : m.node ≡ n.node = same_Some m.node n.node (sym m.at ∙ ap (slice_get t.nodes) e ∙ n.at) in
               let first : m.node.first ≡ n.node.first = ap (λ (z : Node). z.first) same in
               absurd (omega (arith, first, less, mine, its)))
         ])
@@ -218,50 +171,6 @@ module _ (file : List ℕ) (t : Typed) (it : IsUnitOfFile file t) where
   -- ---- the whole declarator of a token
 
   module _ (token i q : ℕ) (m : Node) (d : IsDeclarer t.nodes token i q m) where
-    name_key : (w : ℕ) (o : Node) → slice_get t.nodes w ≡ Some o → (declarator_of t.nodes w).name ≡ Some token → name_at t.nodes w ≡ Some token
-    name_key w o at own = ap (λ x. named_if x (declarator_of t.nodes w).name) at ∙ by o.kind refl
-      where
-        by : (k : Kind) → o.kind ≡ k → named_by k o.first (declarator_of t.nodes w).name ≡ Some token
-        by kind.Enumerator e =
-            absurd (enumerator_nameless o.kind (before nowhere w (declarator_of t.nodes)) w o token e
-            (sym (ap (λ p. (declared_if p (before nowhere w (declarator_of t.nodes)) w).name) at) ∙ sym (ap (λ p. p.name) (declarator_ruled t.nodes w)) ∙ own))
-        by k e = own
-
-    -- another node of the name is no enumerator, since its token is that of an identifier
-    key_name : (w : ℕ) (o : Node) → slice_get t.nodes w ≡ Some o → name_at t.nodes w ≡ Some token → (declarator_of t.nodes w).name ≡ Some token
-    key_name w o at e = by o.kind refl (sym (ap (λ p. named_if p (declarator_of t.nodes w).name) at) ∙ e)
-      where
-        by : (k : Kind) → o.kind ≡ k → named_by k o.first (declarator_of t.nodes w).name ≡ Some token → (declarator_of t.nodes w).name ≡ Some token
-        by kind.Enumerator f g =
-            let x = own_there t unit order token q d.name in
-            let first : o.first ≡ token = cc in
-            let xf = x.first in
-            let inner = (unit.within w o at).0 in
-            let same : x.own ≡ w = named_once t unit order x.own w x.node o token x.at x.is x.first at (ap is_named f) (omega (arith, first)) (omega (arith, first)) (omega (arith, first, inner)) in
-            let one : Some x.node ≡ Some o = sym x.at ∙ ap (slice_get t.nodes) same ∙ at in
-            let node : x.node ≡ o = cc in
-            let kinds : kind.NameDeclarator ≡ kind.Enumerator = sym x.is ∙ ap (λ (z : Node). z.kind) node ∙ f in
-            absurd cc
-        by k f g = g
-
-    declarer_is : token < tokens → slice_index_or it.checked.checked.surroundings.bindings.declarers token None ≡ Some q
-    declarer_is low =
-        let o = node_there t unit order token i q m d in
-        let l = last_there (name_at t.nodes) (length t.nodes) token q (slice_get_within t.nodes q o.0 o.1) (name_key q o.0 o.1 d.name) in
-        let w = some_at t.nodes l.last l.low in
-        let x = own_there t unit order token q d.name in
-        let other = key_name l.last w.0 w.1 l.has in
-        made_by.is.surroundings.bindings.declarers.each token low ∙ ap (λ ns. last_with (name_at ns) (length ns) token) same_nodes
-        ∙ l.is ∙ ap Some (sym (whole_is t unit order x.own x.node x.at x.is q l.last (d.name ∙ ap Some (sym x.first)) (other ∙ ap Some (sym x.first)) l.behind (in_no_other t unit order token i q m d)))
-
-  -- the type that a node names in the typed unit
-  type_is : (i : ℕ) → i < length t.nodes → named_type t i ≡ names.named_of parsed columns i
-  type_is i low =
-      let rows = made_by.fits.named_count in
-      let few = count in
-      sym (get_or-map (type_at t.shapes) t.named i 0 unknown (omega (arith, low, rows)))
-      ∙ ap (λ ts. slice_index_or ts i unknown) made_by.elaborated.named.are
-      ∙ listed_at (names.named_of parsed columns) (length it.unit.nodes) i unknown (omega (arith, low, few))
 
   above_is : (p : ℕ) → entry_of columns.above.now None (Some p) ≡ slice_index_or tree.above.now p None
   above_is p = ap (λ column. slice_index_or column p None) (made_by.are.above ∙ sym made_by.is.whole.tree.above)
@@ -273,7 +182,7 @@ module _ (file : List ℕ) (t : Typed) (it : IsUnitOfFile file t) where
       ∙ ap (λ ns. if names.is_initialised (scripts.kind_at ns a) then Some a else Some p) same_nodes
       ∙ ap (λ o. if names.is_initialised (scripts.kind_if o) then Some a else Some p) at
 
-  module _ (shaped : IsShaped it.checked.by.tree) (sighted : AreSighted it.checked.by.tree) (node q : ℕ) (x : IsObject file t it node q) where
+  module _ (node q : ℕ) (x : IsObject file t it node q) where
     abbrev token : ℕ
     token = x.own.first
 
@@ -284,7 +193,7 @@ module _ (file : List ℕ) (t : Typed) (it : IsUnitOfFile file t) where
     name = record { node = x.own; at = x.at; is = x.is; first = refl }
 
     abbrev v : DeclaresValue t.nodes token
-    v = record { declaration = x.declaration; declarator = q; node = x.holder; is = x.declarer; value = value_there file t it shaped sighted token x.declaration q x.holder x.declarer x.object }
+    v = record { declaration = x.declaration; declarator = q; node = x.holder; is = x.declarer; value = value_there file t it token x.declaration q x.holder x.declarer x.object }
 
     own_entity : bound.entity_at it.names token ≡ Some k
     own_entity = entity_of_declared it.names token k x.declares
@@ -305,17 +214,17 @@ module _ (file : List ℕ) (t : Typed) (it : IsUnitOfFile file t) where
       r = w.declarator
 
       declarer : slice_index_or it.checked.checked.surroundings.bindings.declarers other None ≡ Some r
-      declarer = declarer_is other w.declaration r w.node w.is (token_few i other y)
+      declarer = declarer_is file t it other w.declaration r w.node w.is (token_few i other y)
 
       whole : entities.whole_of it.unit.nodes columns i ≡ Some r
       whole = ap (entry_of columns.declarers.now None) (token_at i other y) ∙ ap (λ column. slice_index_or column other None) made_by.are.declarers ∙ declarer
 
       one_declarator : other ≡ token → r ≡ q
       one_declarator same =
-          some_same r q (sym declarer ∙ ap (λ z. slice_index_or it.checked.checked.surroundings.bindings.declarers z None) same ∙ declarer_is token x.declaration q x.holder x.declarer (token_few node token name))
+          same_Some r q (sym declarer ∙ ap (λ z. slice_index_or it.checked.checked.surroundings.bindings.declarers z None) same ∙ declarer_is file t it token x.declaration q x.holder x.declarer (token_few node token name))
 
       abbrev of : Option Class
-      of = class_of (entry_at typing (words file t it shaped w.declaration w.node w.is.at w.is.external).specifiers).own.specified.storage
+      of = class_of (entry_at typing (words file t it w.declaration w.node w.is.at w.is.external).specifiers).own.specified.storage
 
       abbrev row : ℕ
       row = (entry_at typing r).own.named
@@ -324,15 +233,15 @@ module _ (file : List ℕ) (t : Typed) (it : IsUnitOfFile file t) where
       later : token < other → DeclaresObject typing r
       later more = by (entry_at typing r).own.declarator.function refl
         where
-          o : IsOwned file t it shaped other w.declaration r w.node
-          o = owned file t it shaped other w.declaration r w.node w.is
+          o : IsOwned file t it other w.declaration r w.node
+          o = owned file t it other w.declaration r w.node w.is
 
           plain : is_typedef of ≡ false
-          plain = sym (words file t it shaped w.declaration w.node w.is.at w.is.external).say ∙ no_type (storage_of t.nodes w.node.parts) (declarator_of t.nodes r).next w.value
+          plain = sym (words file t it w.declaration w.node w.is.at w.is.external).say ∙ no_type (storage_of t.nodes w.node.parts) (declarator_of t.nodes r).next w.value
 
           declared : (f : Option ℕ) → (entry_at typing r).own.declarator.function ≡ f → slice_index_or typing.declared r Unclear ≡ value_by tree.nodes.now of f row
           declared f g =
-              declared_is file t it shaped w.declaration w.node w.is.at w.is.external r o.node o.at o.names o.declaration
+              declared_is file t it w.declaration w.node w.is.at w.is.external r o.node o.at o.names o.declaration
               ∙ ap (λ c. if c then TypeName else value_by tree.nodes.now of (entry_at typing r).own.declarator.function row) plain
               ∙ ap (λ z. value_by tree.nodes.now of z row) g
 
@@ -340,13 +249,13 @@ module _ (file : List ℕ) (t : Typed) (it : IsUnitOfFile file t) where
           by None g = (row, (is_register of, declared None g))
           by (Some f) g =
               let function : DeclaresFunction typing r = (row, (is_variadic tree.nodes.now f, declared (Some f) g)) in
-              let d = (functions_follow file t it shaped sighted other token k w.declaration r x.declaration q w.node x.holder w.is x.declarer theirs x.declares function more).declares in
+              let d = (functions_follow file t it other token k w.declaration r x.declaration q w.node x.holder w.is x.declarer theirs x.declares function more).declares in
               let never : Object x.object.0 x.object.1.0 ≡ Function d.0 d.1.0 = sym x.object.1.1 ∙ d.1.1 in
               absurd cc
 
       object : DeclaresObject typing r
       object = elim (cases_lt other token) [
-        | inl less ↦ follows_at file t it shaped sighted token other k x.declaration q w.declaration r x.holder w.node x.declarer w.is x.declares theirs x.object less
+        | inl less ↦ follows_at file t it token other k x.declaration q w.declaration r x.holder w.node x.declarer w.is x.declares theirs x.object less
         | inr le ↦ elim (cases_lt token other) [
           | inl more ↦ later more
           | inr ge ↦ subst (DeclaresObject typing) (sym (one_declarator (omega (arith, le, ge)))) x.object
@@ -355,7 +264,7 @@ module _ (file : List ℕ) (t : Typed) (it : IsUnitOfFile file t) where
 
       becomes : token ≤ other → Becomes (composite q) (composite r)
       becomes le = elim (cases_lt token other) [
-        | inl more ↦ chain file t it shaped sighted other token k more theirs x.declares w v object x.object
+        | inl more ↦ chain file t it other token k more theirs x.declares w v object x.object
         | inr ge ↦ subst (λ p. Becomes (composite q) (composite p)) (sym (one_declarator (omega (arith, le, ge)))) (becomes_itself (composite q))
       ]
 
@@ -368,7 +277,7 @@ module _ (file : List ℕ) (t : Typed) (it : IsUnitOfFile file t) where
       topped : HasTop
       topped = elim w.is.declares [
         | inl same ↦
-            (let part = shaped.parts w.declaration w.node (there file t it shaped w.declaration w.node w.is.at) (suc w.is.place) w.is.part w.is.is in
+            (let part = (shaped file t it).parts w.declaration w.node (there file t it w.declaration w.node w.is.at) (suc w.is.place) w.is.part w.is.is in
             record {
               top = r;
               is = raised_by r w.declaration w.node w.is.at (ap (λ p. slice_index_or tree.above.now p None) (sym same) ∙ part.above) ∙ ap (λ c. if c then Some w.declaration else Some r) (external_plain w.node.kind w.is.external);
@@ -377,11 +286,11 @@ module _ (file : List ℕ) (t : Typed) (it : IsUnitOfFile file t) where
         | inr init ↦
             (let n = node_of t unit order w.is.part kind.InitDeclarator init.0 in
             let first : slice_get n.0.parts 0 ≡ Some r = ap (λ o. slice_get (scripts.parts_if o) 0) (sym n.1.0) ∙ init.1 in
-            let part = shaped.parts w.is.part n.0 (there file t it shaped w.is.part n.0 n.1.0) 0 r first in
+            let part = (shaped file t it).parts w.is.part n.0 (there file t it w.is.part n.0 n.1.0) 0 r first in
             record {
               top = w.is.part;
               is = raised_by r w.is.part n.0 n.1.0 part.above ∙ ap (λ z. if names.is_initialised (Some z) then Some w.is.part else Some r) n.1.1;
-              grown = initialised_becomes file t it shaped sighted other w object w.is.part n.0 n.1.0 n.1.1 first;
+              grown = initialised_becomes file t it other w object w.is.part n.0 n.1.0 n.1.1 first;
             })
       ]
 
@@ -448,7 +357,7 @@ module _ (file : List ℕ) (t : Typed) (it : IsUnitOfFile file t) where
         let entity = entity_at f other y e in
         let own = entities.entity_of it.unit.nodes columns.names.now f in
         let d = object f other y e in
-        type_is f (name_low f other y) ∙ ap (λ c. names.named_by c parsed columns f) (kind_at f other y)
+        type_is file t it f (name_low f other y) ∙ ap (λ c. names.named_by c parsed columns f) (kind_at f other y)
         ∙ ap (λ b. if b then names.entity_type (entities.declared_of columns (entities.whole_of it.unit.nodes columns f)) it.unit.nodes columns f own else names.type_named columns (entities.whole_of it.unit.nodes columns f))
         (ap (λ o. names.is_here f (entities.first_declared parsed columns.names.now o)) entity ∙ here)
         ∙ ap (λ o. names.entity_type (entities.declared_of columns o) it.unit.nodes columns f own) (whole f other y e)
@@ -523,28 +432,28 @@ module _ (file : List ℕ) (t : Typed) (it : IsUnitOfFile file t) where
 
     completes : Becomes (named q) (named_type t (entity_of t node))
     completes =
-        let o = owned file t it shaped token x.declaration q x.holder x.declarer in
+        let o = owned file t it token x.declaration q x.holder x.declarer in
         subst (Becomes (named q)) (sym (whole_type exists.0 exists.1))
-        (becomes_further (named q) (composite q) (composite top_is.top) (own_becomes file t it shaped sighted q o.node (there file t it shaped q o.node o.at) x.object) all_become)
+        (becomes_further (named q) (composite q) (composite top_is.top) (own_becomes file t it q o.node (there file t it q o.node o.at) x.object) all_become)
 
     -- ---- with its initialiser
 
     module _ (i : ℕ) (n : Node) (at : slice_get t.nodes i ≡ Some n) (is : n.kind ≡ kind.InitDeclarator) (first : slice_get n.parts 0 ≡ Some q) where
       top_same : last_declarator ≡ q → top_is.top ≡ i
       top_same same =
-          some_same top_is.top i
+          same_Some top_is.top i
           (sym top_is.is ∙ ap (λ p. names.with_initialiser it.unit.nodes columns (Some p)) same
-          ∙ raised_by q i n at (shaped.parts i n (there file t it shaped i n at) 0 q first).above ∙ ap (λ c. if names.is_initialised (Some c) then Some i else Some q) is)
+          ∙ raised_by q i n at ((shaped file t it).parts i n (there file t it i n at) 0 q first).above ∙ ap (λ c. if names.is_initialised (Some c) then Some i else Some q) is)
 
       apart : (one : ℕ) (u : DeclaresValue t.nodes one) → u.declarator ≡ i → ⊥
       apart one u same =
-          let o = owned file t it shaped one u.declaration u.declarator u.node u.is in
-          let own : o.node ≡ n = some_same o.node n (sym o.at ∙ ap (slice_get t.nodes) same ∙ at) in
+          let o = owned file t it one u.declaration u.declarator u.node u.is in
+          let own : o.node ≡ n = same_Some o.node n (sym o.at ∙ ap (slice_get t.nodes) same ∙ at) in
           false≢true (ap is_declarator (sym is ∙ ap (λ (y : Node). y.kind) (sym own)) ∙ o.is)
 
-      next : Next file t it shaped sighted i token
+      next : Next file t it i token
       next one u object less last linked =
-          behind_becomes file t it shaped sighted one token u v object x.object less last linked i n at is first
+          behind_becomes file t it one token u v object x.object less last linked i n at is first
           (stands_behind t unit order one u.declaration q u.declarator i u.node n u.is at is first
           (in_order_is file t it token one x.declaration q u.declaration u.declarator x.holder u.node x.declarer u.is less) (apart one u))
 
@@ -552,7 +461,7 @@ module _ (file : List ℕ) (t : Typed) (it : IsUnitOfFile file t) where
       grown = elim (cases_lt token z.other) [
         | inl more ↦
             becomes_further (composite i) (composite last_declarator) (composite top_is.top)
-            (chain_from file t it shaped sighted i (suc z.other) z.other token k (omega arith) more (theirs final.last z.other z.name_is z.stands) x.declares (w final.last z.other z.name_is z.stands)
+            (chain_from file t it i (suc z.other) z.other token k (omega arith) more (theirs final.last z.other z.name_is z.stands) x.declares (w final.last z.other z.name_is z.stands)
             (object final.last z.other z.name_is z.stands) next) top_is.grown
         | inr ge ↦
             (let le = behind in
@@ -563,21 +472,21 @@ module _ (file : List ℕ) (t : Typed) (it : IsUnitOfFile file t) where
       initialises =
           subst (Becomes (named i)) (sym (whole_type exists.0 exists.1))
           (becomes_further (named i) (composite i) (composite top_is.top)
-          (own_becomes file t it shaped sighted i n (there file t it shaped i n at) (initialised_object file t it shaped sighted token v x.object i n at is first)) grown)
+          (own_becomes file t it i n (there file t it i n at) (initialised_object file t it token v x.object i n at is first)) grown)
 
 pub complete : Laws.CompositesComplete
-complete file t it shaped sighted node q x = completes file t it shaped sighted node q x
+complete file t it node q x = completes file t it node q x
 
 pub initialised : Laws.InitialisersComplete
-initialised file t it shaped sighted node q x i n at is first = initialises file t it shaped sighted node q x i n at is first
+initialised file t it node q x i n at is first = initialises file t it node q x i n at is first
 
-module _ (file : List ℕ) (t : Typed) (it : IsUnitOfFile file t) (shaped : IsShaped it.checked.by.tree) (sighted : AreSighted it.checked.by.tree) (node q : ℕ) (x : IsObject file t it node q) (i : ℕ)
+module _ (file : List ℕ) (t : Typed) (it : IsUnitOfFile file t) (node q : ℕ) (x : IsObject file t it node q) (i : ℕ)
     (e : entities.entity_of it.unit.nodes it.names i ≡ Some x.entity) where
-  abbrev y : IsNamed file t it shaped sighted node q x i
-  y = named_there file t it shaped sighted node q x i e
+  abbrev y : IsNamed file t it node q x i
+  y = named_there file t it node q x i e
 
   abbrev its_value : DeclaresValue t.nodes y.other
-  its_value = w file t it shaped sighted node q x i y.other y.name_is y.stands
+  its_value = w file t it node q x i y.other y.name_is y.stands
 
   -- its declarator declares the object
   its_object : IsObject file t it i its_value.declarator
@@ -586,30 +495,30 @@ module _ (file : List ℕ) (t : Typed) (it : IsUnitOfFile file t) (shaped : IsSh
     at = y.name_is.at;
     is = y.name_is.is;
     entity = x.entity;
-    declares = ap (bound.declared_entity it.names) y.name_is.first ∙ theirs file t it shaped sighted node q x i y.other y.name_is y.stands;
+    declares = ap (bound.declared_entity it.names) y.name_is.first ∙ theirs file t it node q x i y.other y.name_is y.stands;
     declaration = its_value.declaration;
     holder = its_value.node;
     declarer = subst (λ z. IsDeclarer t.nodes z its_value.declaration its_value.declarator its_value.node) (sym y.name_is.first) its_value.is;
-    object = object file t it shaped sighted node q x i y.other y.name_is y.stands;
+    object = object file t it node q x i y.other y.name_is y.stands;
   }
 
   its_entity : entity_of t i ≡ entity_of t node
   unfolding its_object
   its_entity =
-      let first = exists file t it shaped sighted node q x in
-      ap (λ o. entity_if o i) (refers file t it shaped sighted i its_value.declarator its_object ∙ sym (refers file t it shaped sighted node q x) ∙ first.1) ∙ sym (ap (λ o. entity_if o node) first.1)
+      let first = exists file t it node q x in
+      ap (λ o. entity_if o i) (refers file t it i its_value.declarator its_object ∙ sym (refers file t it node q x) ∙ first.1) ∙ sym (ap (λ o. entity_if o node) first.1)
 
 pub objects_named : Laws.NamesOfObjectsAreObjects
-objects_named file t it shaped sighted node q x i e = (
-  (its_value file t it shaped sighted node q x i e).declarator,
+objects_named file t it node q x i e = (
+  (its_value file t it node q x i e).declarator,
   (
-    its_object file t it shaped sighted node q x i e,
+    its_object file t it node q x i e,
     (
-      (let y = named_there file t it shaped sighted node q x i e in whole file t it shaped sighted node q x i y.other y.name_is y.stands),
-      its_entity file t it shaped sighted node q x i e,
+      (let y = named_there file t it node q x i e in whole file t it node q x i y.other y.name_is y.stands),
+      its_entity file t it node q x i e,
     ),
   ),
 )
 
 pub firsts : Laws.FirstsDeclareTheirObjects
-firsts file t it shaped sighted node q x = first_stands file t it shaped sighted node q x
+firsts file t it node q x = first_stands file t it node q x

@@ -1,6 +1,7 @@
 -- The declarator of an initialised one has a name (C11 6.7.6).
 use Rattle.std.proofs.Common.{◌≡◌, ℕ, zero, suc, ◌+◌, ◌<◌, Bool, true, false, List, [], ◌∷◌, Some, slice_get, refl, sym, subst, ap, ◌∙◌, arith, if◌then◌else◌}
 use Rattle.std.proofs.lemmas.Bool.{false≢true, lt-ltb}
+use Rattle.std.proofs.lemmas.Option.{same_Some}
 use Rattle.cr_syntax.specs.Words.{Lexeme}
 use Rattle.cr_syntax.specs.Trees.{Trees, none, node as tree_node}
 use Rattle.cr_syntax.specs.declared.node.Kind.{Kind}
@@ -15,13 +16,12 @@ use Rattle.cr_scopes_events.specs.Values.{before}
 use Rattle.cr_scopes_events.specs.Declarators.{nowhere, in_first, declared_by, declared_if, declarator_of}
 use Rattle.cr_scopes_events.proofs.Descents.{declarator_ruled}
 use Rattle.cr_typed.specs.declared.typed.Typed.{Typed}
-use Rattle.cr_meaning_declarations.specs.Units.Owned.{AreOfUnit}
 use Rattle.cr_meaning_declarations.proofs.UnitsLemmas.Handing.{laid_at}
-use Rattle.cr_meaning_types.specs.Known.Shaped.{IsShaped}
 use Rattle.cr_meaning_declarations.specs.Declared.Files.{IsUnitOfFile}
-use Rattle.cr_meaning_declarations.proofs.DeclaredLemmas.Nodes.{of_unit}
+use Rattle.cr_meaning_declarations.proofs.DeclaredLemmas.Files.{has_unit}
 use Rattle.cr_meaning_composites.proofs.ChainedLemmas.Known.{nodes_are, there}
 use Rattle.cr_meaning_composites.specs.Composed.Laws
+use Rattle.cr_meaning_references.proofs.TreesLemmas.Shaped.{shaped}
 
 -- what is derived from a declarator
 abbrev derives : Kind → Bool
@@ -76,9 +76,8 @@ begins kind.ArrayDeclarator d ts c a b v u i j l = direct c l.0.0
 begins kind.FunctionDeclarator d ts c a b v u i j l = direct c l.0.0
 begins k d ts c a b v u i j l = absurd (false≢true d)
 
-module _ (file : List ℕ) (t : Typed) (it : IsUnitOfFile file t) (shaped : IsShaped it.checked.by.tree) where
-  unit : AreOfUnit t
-  unit = of_unit file t it
+module _ (file : List ℕ) (t : Typed) (it : IsUnitOfFile file t) where
+  open has_unit file t it use {unit}
 
   record HasFirst (a : ℕ) (n : Node) : Type 0 where
     first : ℕ
@@ -95,8 +94,8 @@ module _ (file : List ℕ) (t : Typed) (it : IsUnitOfFile file t) (shaped : IsSh
       by : (ps : List ℕ) → n.parts ≡ ps → HasFirst a n
       by [] e = absurd (empty n.kind d unit.tokens n.first (n.last + 1) (subst (λ ps. IsLaid unit.tokens (side_of n.kind) (row_in t.nodes ps) n.first (n.last + 1)) e (laid_at t unit a n at)))
       by (p ∷ rest) e =
-          let x = shaped.parts a n (there file t it shaped a n at) 0 p (ap (λ ps. slice_get ps 0) e) in
-          let own : slice_get t.nodes p ≡ Some x.own = ap (λ ns. slice_get ns p) (nodes_are file t it shaped) ∙ x.at in
+          let x = (shaped file t it).parts a n (there file t it a n at) 0 p (ap (λ ps. slice_get ps 0) e) in
+          let own : slice_get t.nodes p ≡ Some x.own = ap (λ ns. slice_get ns p) (nodes_are file t it) ∙ x.at in
           record {
             first = p;
             rest = rest;
@@ -140,11 +139,8 @@ module _ (file : List ℕ) (t : Typed) (it : IsUnitOfFile file t) (shaped : IsSh
       by kind.FunctionDeclarator is g rest = through (ap derives is) (λ x. ruled a n at kind.FunctionDeclarator is ∙ inner a n x) rest
       by k is g rest = absurd (false≢true g)
 
-some_same : {A : Type 0} (x y : A) → Some x ≡ Some y → x ≡ y
-some_same x y e = cc
-
 pub has_name : Laws.InitialisersHaveNames
-has_name file t it shaped i q n at is first =
-    let x = first_there file t it shaped i n at (ap derives is) in
-    let same : x.first ≡ q = some_same x.first q (sym (ap (λ ps. slice_get ps 0) x.is) ∙ first) in
-    subst (Named file t it shaped) same (named file t it shaped (suc x.first) x.first x.node (omega arith) x.at x.naming)
+has_name file t it i q n at is first =
+    let x = first_there file t it i n at (ap derives is) in
+    let same : x.first ≡ q = same_Some x.first q (sym (ap (λ ps. slice_get ps 0) x.is) ∙ first) in
+    subst (Named file t it) same (named file t it (suc x.first) x.first x.node (omega arith) x.at x.naming)

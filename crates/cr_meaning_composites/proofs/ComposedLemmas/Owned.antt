@@ -8,11 +8,11 @@ use Rattle.cr_meaning_composites.proofs.ComposedLemmas.Owning.{name_there}
 use Rattle.cr_meaning_composites.proofs.ComposedLemmas.Told.{declared}
 
 pub own : Laws.InitialisersAreObjects
-own file t it shaped sighted i q n at is first object =
-    let name = has_name file t it shaped i q n at is first in
-    let x = name_there file t it shaped i q name.0 n at is first name.1 in
-    let d = stand file t it shaped i q x.0.first n at is first object (name.1 ∙ ap Some (sym x.1.1.1)) in
-    let k = declared file t it shaped x.0.first (record { declaration = d.0; declarator = q; node = d.1.0; is = d.1.1; value = value_there file t it shaped sighted x.0.first d.0 q d.1.0 d.1.1 object }) in
+own file t it i q n at is first object =
+    let name = has_name file t it i q n at is first in
+    let x = name_there file t it i q name.0 n at is first name.1 in
+    let d = stand file t it i q x.0.first n at is first object (name.1 ∙ ap Some (sym x.1.1.1)) in
+    let k = declared file t it x.0.first (record { declaration = d.0; declarator = q; node = d.1.0; is = d.1.1; value = value_there file t it x.0.first d.0 q d.1.0 d.1.1 object }) in
     record {
       own = x.0;
       at = x.1.0;

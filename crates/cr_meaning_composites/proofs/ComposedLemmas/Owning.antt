@@ -1,7 +1,7 @@
 -- The name of an initialised declarator is the identifier that its declarator declares (C11 6.7.6p4).
 use Rattle.std.proofs.Common.{◌≡◌, ℕ, zero, suc, ◌<◌, Bool, true, false, List, [], ◌∷◌, Option, None, Some, length, nat_lt, slice_get, slice_index_or, refl, sym, subst, ap, ◌∙◌, arith, if◌then◌else◌}
 use Rattle.std.proofs.lemmas.Bool.{ltb-true}
-use Rattle.std.proofs.lemmas.Option.{slice_get_within}
+use Rattle.std.proofs.lemmas.Option.{slice_get_within, same_Some}
 use Rattle.cr_syntax.specs.declared.node.Kind.{Kind}
 use Rattle.cr_syntax.specs.declared.node.Kind.TheVariants as kind
 use Rattle.cr_syntax.specs.declared.node.Node.{Node}
@@ -12,13 +12,11 @@ use Rattle.cr_typed.specs.declared.typed.Typed.{Typed}
 use Rattle.cr_meaning_operations.specs.Operations.{kind_if, parts_if, is_name, name_by, name_of}
 use Rattle.cr_meaning_composites.proofs.ChainedLemmas.Known.{there}
 use Rattle.cr_meaning_composites.specs.Composed.Laws
-
-some_same : {A : Type 0} (x y : A) → Some x ≡ Some y → x ≡ y
-some_same x y e = cc
+use Rattle.cr_meaning_references.proofs.TreesLemmas.Shaped.{shaped}
 
 first_or : (ps : List ℕ) (q : ℕ) → slice_get ps 0 ≡ Some q → slice_index_or ps 0 0 ≡ q
 first_or [] q e = absurd cc
-first_or (x ∷ ps) q e = some_same x q e
+first_or (x ∷ ps) q e = same_Some x q e
 
 module _ (t : Typed) (token : ℕ) where
   record HasName (own : ℕ) : Type 0 where
@@ -74,6 +72,6 @@ module _ (t : Typed) (token : ℕ) where
     of_initialised = by_fuel (length t.nodes) (slice_get_within t.nodes i n at)
 
 pub name_there : Laws.InitialisersNameTheirTokens
-name_there file t it shaped i q token n at is first name =
-    let x = of_initialised t token i q n at is first (shaped.parts i n (there file t it shaped i n at) 0 q first).below name in
+name_there file t it i q token n at is first name =
+    let x = of_initialised t token i q n at is first ((shaped file t it).parts i n (there file t it i n at) 0 q first).below name in
     (x.node, (x.at, (x.is, x.first)))

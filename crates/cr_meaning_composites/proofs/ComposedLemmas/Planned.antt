@@ -11,6 +11,7 @@ use Rattle.cr_check_unit.specs.declared.typing.Typing.{Typing}
 use Rattle.cr_check_unit.specs.Typing.{cut, declared_in}
 use Rattle.cr_meaning_composites.proofs.ChainedLemmas.Known.{there}
 use Rattle.cr_meaning_composites.specs.Composed.Laws
+use Rattle.cr_meaning_references.proofs.TreesLemmas.Shaped.{shaped}
 
 object_is : (look : ℕ → Qualified) (rows : List ℕ) (d : Declared) (type : Qualified) → object_of (meaning_by look rows d) ≡ Some type → (row : ℕ) × ((register : Bool) × (d ≡ Object row register))
 object_is look rows (Object row register) type e = (row, (register, refl))
@@ -20,9 +21,9 @@ object_is look rows TypeName type e = absurd cc
 object_is look rows Unclear type e = absurd cc
 
 pub planned : Laws.PlannedDeclareObjects
-planned file t it shaped i q n at first type e =
+planned file t it i q n at first type e =
     let typing : Typing = it.checked.checked.whole.typing in
     let shapes : List Shape = it.checked.checked.table in
-    let low = (shaped.parts i n (there file t it shaped i n at) 0 q first).below in
+    let low = ((shaped file t it).parts i n (there file t it i n at) 0 q first).below in
     let x = object_is (type_at shapes) (parameters_in (cut i typing).parameters (Some q)) (slice_index_or (cut i typing).declared q Unclear) type (sym (ap (λ o. object_of (declared_in shapes (cut i typing) o)) first) ∙ e) in
     (x.0, (x.1.0, sym (get_or-take i typing.declared q Unclear low) ∙ x.1.1))

@@ -1,7 +1,7 @@
 -- An initialised declarator of an object stands in a declaration (C11 6.7p1).
 use Rattle.std.proofs.Common.{◌≡◌, ℕ, zero, suc, ◌+◌, Bool, true, false, not, List, Option, None, Some, length, slice_get, slice_index_or, inr, refl, sym, ap, ◌∙◌, if◌then◌else◌}
 use Rattle.std.proofs.lemmas.Bool.{both_ways, false≢true, not-true}
-use Rattle.std.proofs.lemmas.Option.{slice_get_within}
+use Rattle.std.proofs.lemmas.Option.{slice_get_within, same_Some}
 use Rattle.cr_syntax.specs.declared.node.Kind.{Kind}
 use Rattle.cr_syntax.specs.declared.node.Kind.TheVariants as kind
 use Rattle.cr_syntax.specs.declared.node.Node.{Node}
@@ -12,34 +12,28 @@ use Rattle.cr_syntax_nodes.specs.Laid.{stands_for}
 use Rattle.cr_scopes_events.specs.Declarators.{declarator_of}
 use Rattle.cr_scopes_events.specs.Scripts as scripts
 use Rattle.cr_scopes_linkage.specs.Shared.Origins.{is_external, IsDeclarer}
-use Rattle.cr_check_types.specs.declared.shape.Shape.{Shape}
 use Rattle.cr_check_enclosing.specs.Above.{above_of}
 use Rattle.cr_check_expressions.specs.declared.known.Declared.TheVariants.{Object}
 use Rattle.cr_check_declarators.specs.declared.words.Specified.{Specified}
 use Rattle.cr_check_declarators.specs.declared.declarator.Declarator.{Declarator}
 use Rattle.cr_check_declarators.specs.declared.enumerators.Enumerated.{Enumerated}
-use Rattle.cr_check_declarations.specs.declared.tree.Tree.{Tree}
 use Rattle.cr_check_declarations.specs.Before.{kind_in, kind_if}
 use Rattle.cr_check_declarations.specs.Named.{is_declaration, is_initialised, above_in, declaration_at, declaration_of, names_ordinary, ordinary_of, declares_name, declared_by}
-use Rattle.cr_check_unit.specs.declared.typing.Typing.{Typing}
 use Rattle.cr_check_unit.specs.Typing.{cut, entry_at, before_in}
 use Rattle.cr_typed.specs.declared.typed.Typed.{Typed}
-use Rattle.cr_typed_unit.specs.Typed.{IsTypedBy}
-use Rattle.cr_meaning_declarations.specs.Units.Owned.{AreOfUnit}
 use Rattle.cr_meaning_declarations.proofs.UnitsLemmas.Rows.{clear_side, clear_laid, clear_at}
 use Rattle.cr_meaning_declarations.proofs.UnitsLemmas.Handing.{laid_at, parts_below}
 use Rattle.cr_meaning_declarations.proofs.NamesLemmas.Parents.{IsPartOf, above_some}
-use Rattle.cr_meaning_types.specs.Known.Shaped.{fits, IsPart, IsShaped}
+use Rattle.cr_meaning_types.specs.Known.Shaped.{fits, IsPart}
 use Rattle.cr_meaning_types.proofs.KnownLemmas.Naming.{ruled}
 use Rattle.cr_meaning_declarations.specs.Declared.Files.{IsUnitOfFile}
-use Rattle.cr_meaning_declarations.proofs.DeclaredLemmas.Nodes.{of_unit}
+use Rattle.cr_meaning_declarations.proofs.DeclaredLemmas.Files.{has_unit}
+use Rattle.cr_meaning_declarations.proofs.LinkedLemmas.Order.{is_initial}
 use Rattle.cr_meaning_composites.proofs.ChainedLemmas.Known.{is_typing, holds, there}
 use Rattle.cr_meaning_composites.specs.Objects.Laws.{DeclaresObject}
 use Rattle.cr_meaning_composites.proofs.ObjectsLemmas.Statics.{no_constant, object_if}
 use Rattle.cr_meaning_composites.specs.Composed.Laws
-
-some_same : {A : Type 0} (x y : A) → Some x ≡ Some y → x ≡ y
-some_same x y e = cc
+use Rattle.cr_meaning_references.proofs.TreesLemmas.Shaped.{shaped}
 
 -- ---- what declares an object
 
@@ -49,10 +43,6 @@ object_declares kind.Enumerator nodes said own row e d x register h = absurd (no
 object_declares k nodes said own row e d x register h = (object_if (names_ordinary (kind_in nodes d)) _ x register (object_if (declares_name k) (ordinary_of nodes said own row d) x register h).1).0
 
 -- ---- what has no initialised declarators
-
-abbrev is_initial : Kind → Bool
-is_initial kind.InitDeclarator = true
-is_initial k = false
 
 only_initial : (k : Kind) → is_initial k ≡ true → k ≡ kind.InitDeclarator
 only_initial kind.InitDeclarator h = refl
@@ -79,31 +69,16 @@ definition_clear : clear_side is_initial without clears (side_of kind.FunctionDe
 unfolding rule_of
 definition_clear = refl
 
-module _ (file : List ℕ) (t : Typed) (it : IsUnitOfFile file t) (shaped : IsShaped it.checked.by.tree) (i q : ℕ) (n : Node) (at : slice_get t.nodes i ≡ Some n) (is : n.kind ≡ kind.InitDeclarator)
+module _ (file : List ℕ) (t : Typed) (it : IsUnitOfFile file t) (i q : ℕ) (n : Node) (at : slice_get t.nodes i ≡ Some n) (is : n.kind ≡ kind.InitDeclarator)
     (first : slice_get n.parts 0 ≡ Some q) (object : DeclaresObject it.checked.checked.whole.typing q) where
-  unit : AreOfUnit t
-  unit = of_unit file t it
-
-  abbrev made_by : IsTypedBy file it.unit it.names it.checked.checked t
-  made_by = it.checked.by
-
-  abbrev typing : Typing
-  typing = it.checked.checked.whole.typing
-
-  abbrev shapes : List Shape
-  shapes = it.checked.checked.table
-
-  abbrev tree : Tree
-  tree = made_by.tree
-
-  same_nodes : it.unit.nodes ≡ t.nodes
-  same_nodes = sym made_by.elaborated.nodes_are
+  open it use {made_by, typing, shapes, tree}
+  open has_unit file t it use {unit, nodes_are as same_nodes}
 
   here : slice_get tree.nodes.now i ≡ Some n
-  here = there file t it shaped i n at
+  here = there file t it i n at
 
   part : IsPart tree i n 0 q
-  part = shaped.parts i n here 0 q first
+  part = (shaped file t it).parts i n here 0 q first
 
   abbrev holds_ordinary : Option ℕ → Bool
   holds_ordinary d = names_ordinary (kind_in tree.nodes.now d)
@@ -117,7 +92,7 @@ module _ (file : List ℕ) (t : Typed) (it : IsUnitOfFile file t) (shaped : IsSh
       ∙ ap (λ k. if is_initialised (Some k) then declaration_at tree.nodes.now (above_in tree.above.now (Some i)) else declaration_at tree.nodes.now (Some i)) is))
       ∙ object_declares part.own.kind tree.nodes.now (before_in shapes (cut q typing)).specified (entry_at typing q).own.declarator (entry_at typing q).own.named (entry_at typing q).own.enumerated
       (declaration_of tree.nodes.now tree.above.now q) object.0 object.1.0
-      (sym (ruled tree it.checked.checked.texts shapes typing (is_typing file t it shaped) (holds file t it shaped) q part.own part.at).declared ∙ object.1.1)
+      (sym (ruled tree it.checked.checked.texts shapes typing (is_typing file t it) (holds file t it) q part.own part.at).declared ∙ object.1.1)
 
   module _ (token : ℕ) (name : (declarator_of t.nodes q).name ≡ Some token) where
     abbrev Stands : Type 0
@@ -128,7 +103,7 @@ module _ (file : List ℕ) (t : Typed) (it : IsUnitOfFile file t) (shaped : IsSh
       no_side clear =
           let row = clear_laid is_initial without clears unit.tokens (side_of h.parent.kind) (row_in t.nodes h.parent.parts) h.parent.first (h.parent.last + 1) clear (laid_at t unit d h.parent h.at) in
           let one = clear_at is_initial without clears t.nodes unit.below h.parent.parts (parts_below t unit d h.parent h.at) row h.place i h.is in
-          let same : one.0 ≡ n = some_same one.0 n (sym one.1.0 ∙ at) in
+          let same : one.0 ≡ n = same_Some one.0 n (sym one.1.0 ∙ at) in
           false≢true (sym (ap (λ (z : Node). is_initial z.kind) (sym same) ∙ one.1.1) ∙ ap is_initial is)
 
       external : is_external h.parent.kind ≡ true
@@ -144,8 +119,8 @@ module _ (file : List ℕ) (t : Typed) (it : IsUnitOfFile file t) (shaped : IsSh
       -- it isn't its first part, which has specifiers
       no_first : slice_get h.parent.parts 0 ≡ Some i → ⊥
       no_first e =
-          let x = shaped.parts d h.parent (there file t it shaped d h.parent h.at) 0 i e in
-          let same : x.own ≡ n = some_same x.own n (sym x.at ∙ here) in
+          let x = (shaped file t it).parts d h.parent (there file t it d h.parent h.at) 0 i e in
+          let same : x.own ≡ n = same_Some x.own n (sym x.at ∙ here) in
           specified h.parent.kind x.own.kind external (ap (λ (z : Node). z.kind) same ∙ is) x.fits
         where
           specified : (k own : Kind) → is_external k ≡ true → own ≡ kind.InitDeclarator → fits k 0 own ≡ true → ⊥
@@ -185,11 +160,11 @@ module _ (file : List ℕ) (t : Typed) (it : IsUnitOfFile file t) (shaped : IsSh
         by None e = absurd (false≢true (sym (ap (λ o. holds_ordinary (declaration_at tree.nodes.now o)) e) ∙ ordinary))
         by (Some d) e =
             let h = above_some t unit (length t.nodes) i d (above_is d e) in
-            stands_at d h (declared (is_declaration (kind_in tree.nodes.now (Some d))) (sym (ap (λ o. holds_ordinary (declaration_at tree.nodes.now o)) e) ∙ ordinary) (ap kind_if (there file t it shaped d h.parent h.at))) h.place h.is
+            stands_at d h (declared (is_declaration (kind_in tree.nodes.now (Some d))) (sym (ap (λ o. holds_ordinary (declaration_at tree.nodes.now o)) e) ∙ ordinary) (ap kind_if (there file t it d h.parent h.at))) h.place h.is
           where
             declared : {k : Kind} (b : Bool) → holds_ordinary (if b then Some d else None) ≡ true → kind_in tree.nodes.now (Some d) ≡ Some k → names_ordinary (Some k) ≡ true
             declared true f g = sym (ap names_ordinary g) ∙ f
             declared false f g = absurd (false≢true f)
 
 pub stand : Laws.InitialisersStandInDeclarations
-stand file t it shaped i q token n at is first object name = stands file t it shaped i q n at is first object token name
+stand file t it i q token n at is first object name = stands file t it i q n at is first object token name

@@ -9,18 +9,14 @@ use Rattle.cr_scopes_events.specs.Declarators.{declarator_of}
 use Rattle.cr_scopes_events.specs.Scripts.{storage_of}
 use Rattle.cr_scopes_bindings.specs.Entities.{declared_entity, before_of, previous_of}
 use Rattle.cr_check_surroundings.specs.Raised.{is_first, initialises, raised_by, raised_if, raised}
-use Rattle.cr_check_types.specs.declared.shape.Shape.{Shape}
 use Rattle.cr_check_types.specs.Types.{Qualified, type_at}
 use Rattle.cr_check_types.specs.Relations.{are_compatible}
-use Rattle.cr_check_expressions.specs.declared.least.Break.{Break}
-use Rattle.cr_check_expressions.specs.Breaks.{IsAmong}
 use Rattle.cr_check_expressions.specs.Known.{spelling_of}
 use Rattle.cr_check_expressions.specs.Ruled.{is_type}
 use Rattle.cr_check_expressions.specs.declared.known.Declared.TheVariants.{TypeName, Unclear}
 use Rattle.cr_check_declarators.specs.declared.words.Class.{Class}
 use Rattle.cr_check_declarators.specs.declared.declarator.Declarator.{Declarator}
 use Rattle.cr_check_declarators.specs.declared.linkages.Declaration.{Declaration}
-use Rattle.cr_check_declarations.specs.declared.tree.Tree.{Tree}
 use Rattle.cr_check_declarations.specs.Before.{declarator_in}
 use Rattle.cr_check_declarations.specs.Declarators.{declarator_by}
 use Rattle.cr_check_declarations.specs.Faults.{fault_at, token_if, name_in}
@@ -28,15 +24,11 @@ use Rattle.cr_check_declarations.specs.Named.{is_declarator, declares_name, decl
 use Rattle.cr_check_linkage.specs.NameTypes.{NameType, of_object, type_as, type_or, joined_type, disagrees, is_known}
 use Rattle.cr_check_linkage.specs.Linked.{name_type_in, same_by}
 use Rattle.cr_check_linkage.specs.Faults.{faults_in}
-use Rattle.cr_check_unit.specs.declared.typing.Typing.{Typing}
 use Rattle.cr_check_unit.specs.Typing.{cut, entry_at, before_in, past_in}
 use Rattle.cr_check_unit.specs.Breaks.{IsNodeBreak}
 use Rattle.cr_check_signatures.specs.Functions.Linked.{same_at, earlier_at, now_at, has_linkage, does_at, IsLinked}
-use Rattle.cr_check_signatures.proofs.FunctionsLemmas.Linked.{declarations}
+use Rattle.cr_check_signatures.proofs.FunctionsLemmas.Linked.{declarations, HoldsAll}
 use Rattle.cr_typed.specs.declared.typed.Typed.{Typed}
-use Rattle.cr_typed_unit.specs.Typed.{IsTypedBy}
-use Rattle.cr_meaning_types.specs.Known.Shaped.{IsShaped}
-use Rattle.cr_meaning_types.specs.Known.Sighted.{AreSighted}
 use Rattle.cr_meaning_types.proofs.KnownLemmas.Naming.{ruled, declarator_early}
 use Rattle.cr_meaning_declarations.specs.Declared.Files.{IsUnitOfFile}
 use Rattle.cr_meaning_declarations.specs.Linked.Laws.{DeclaresValue}
@@ -48,9 +40,11 @@ use Rattle.cr_meaning_composites.proofs.ChainedLemmas.Known.{words, IsOwned, own
 use Rattle.cr_meaning_composites.specs.Objects.Laws.{DeclaresObject}
 use Rattle.cr_meaning_composites.proofs.ObjectsLemmas.Declaring.{IsLast, last_there, entity_of_declared}
 use Rattle.cr_meaning_composites.proofs.ObjectsLemmas.Alone.{value_made, declared_is}
-use Rattle.cr_meaning_composites.proofs.ObjectsLemmas.Objects.{shared, follows_at, raised_is}
+use Rattle.cr_meaning_composites.proofs.ObjectsLemmas.Objects.{shared, follows_at}
 use Rattle.cr_meaning_composites.specs.Composed.Laws.{Becomes}
 use Rattle.cr_meaning_composites.proofs.ComposedLemmas.Sizes.{becomes_further, becomes_typed, joined_own, joined_earlier}
+use Rattle.cr_meaning_composites.proofs.ChainedLemmas.Chained.{raised_is}
+use Rattle.cr_meaning_references.proofs.TreesLemmas.Shaped.{shaped}
 
 -- ---- what the declaration before is read from
 
@@ -59,9 +53,6 @@ first_is [] r e = absurd cc
 first_is (x ∷ xs) r e = let same : x ≡ r = cc in eq-eqb x r same
 
 -- ---- faults that aren't there
-
-abbrev HoldsAll : List (Option Break) → Type 0
-HoldsAll faults = (b : Break) → IsAmong faults b → ⊥
 
 unbroken_at : (row token : ℕ) (o : Option ℕ) (b : Bool) → o ≡ Some token → HoldsAll (fault_at row (token_if b o) ∷ []) → b ≡ false
 unbroken_at row token o true e h = absurd (h (record { token = token; row = row }) (inl (ap (fault_at row) e)))
@@ -74,21 +65,8 @@ same_declarator : (k : Kind) (l : Option Declaration) (d : Declaration) (same : 
 same_declarator kind.InitDeclarator l d same n h e = absurd (false≢true h)
 same_declarator k l d same n h e = ap (λ o. same_by k o same n) e
 
-module _ (file : List ℕ) (t : Typed) (it : IsUnitOfFile file t) (shaped : IsShaped it.checked.by.tree) (sighted : AreSighted it.checked.by.tree) where
-  abbrev made_by : IsTypedBy file it.unit it.names it.checked.checked t
-  made_by = it.checked.by
-
-  abbrev typing : Typing
-  typing = it.checked.checked.whole.typing
-
-  abbrev shapes : List Shape
-  shapes = it.checked.checked.table
-
-  abbrev texts : List (List ℕ)
-  texts = it.checked.checked.texts
-
-  abbrev tree : Tree
-  tree = made_by.tree
+module _ (file : List ℕ) (t : Typed) (it : IsUnitOfFile file t) where
+  open it use {made_by, typing, shapes, texts, tree}
 
   abbrev pub named : ℕ → Qualified
   named p = type_at shapes (slice_index_or typing.named p 0)
@@ -116,7 +94,7 @@ module _ (file : List ℕ) (t : Typed) (it : IsUnitOfFile file t) (shaped : IsSh
 
     made : composite p ≡ type_or (named p) (joined_type earlier (of_object (named p)))
     made =
-        (ruled tree texts shapes typing (is_typing file t it shaped) (holds file t it shaped) p n at).composite
+        (ruled tree texts shapes typing (is_typing file t it) (holds file t it) p n at).composite
         ∙ ap (λ x. type_or (named p) (joined_type earlier x)) (type_is p object)
 
     pub own_becomes : Becomes (named p) (composite p)
@@ -134,35 +112,35 @@ module _ (file : List ℕ) (t : Typed) (it : IsUnitOfFile file t) (shaped : IsSh
     r = w.declarator
 
     at : slice_get tree.nodes.now a ≡ Some n
-    at = there file t it shaped a n here
+    at = there file t it a n here
 
-    o : IsOwned file t it shaped token w.declaration r w.node
-    o = owned file t it shaped token w.declaration r w.node w.is
+    o : IsOwned file t it token w.declaration r w.node
+    o = owned file t it token w.declaration r w.node w.is
 
     declaration : declaration_of tree.nodes.now tree.above.now a ≡ Some w.declaration
-    declaration = sym (shaped.initialised a r n at is first) ∙ o.declaration
+    declaration = sym ((shaped file t it).initialised a r n at is first) ∙ o.declaration
 
     names : declares_name n.kind ≡ true
     names = ap declares_name is
 
     low : r < a
-    low = (shaped.parts a n at 0 r first).below
+    low = ((shaped file t it).parts a n at 0 r first).below
 
     abbrev of : Option Class
-    of = class_of (entry_at typing (words file t it shaped w.declaration w.node w.is.at w.is.external).specifiers).own.specified.storage
+    of = class_of (entry_at typing (words file t it w.declaration w.node w.is.at w.is.external).specifiers).own.specified.storage
 
     none : (is_typedef of ≡ false) × ((entry_at typing r).own.declarator.function ≡ None)
     none =
         value_made (is_typedef of) tree.nodes.now of (entry_at typing r).own.declarator.function (entry_at typing r).own.named its.0 its.1.0
-        (sym (declared_is file t it shaped w.declaration w.node w.is.at w.is.external r o.node o.at o.names o.declaration) ∙ its.1.1)
+        (sym (declared_is file t it w.declaration w.node w.is.at w.is.external r o.node o.at o.names o.declaration) ∙ its.1.1)
 
     own : (entry_at typing a).own.declarator ≡ (entry_at typing r).own.declarator
     own =
         let early = before_in shapes (cut a typing) in
-        (ruled tree texts shapes typing (is_typing file t it shaped) (holds file t it shaped) a n at).declarator
+        (ruled tree texts shapes typing (is_typing file t it) (holds file t it) a n at).declarator
         ∙ ap (λ k. declarator_by k (spelling_of tree.file.now tree.tokens.now) tree.nodes.now early a n) is
         ∙ ap (declarator_in early.declarator) first
-        ∙ declarator_early tree texts shapes typing (is_typing file t it shaped) (holds file t it shaped) a n at r low
+        ∙ declarator_early tree texts shapes typing (is_typing file t it) (holds file t it) a n at r low
 
     -- it declares an object too
     pub initialised_object : DeclaresObject typing a
@@ -171,7 +149,7 @@ module _ (file : List ℕ) (t : Typed) (it : IsUnitOfFile file t) (shaped : IsSh
           row,
           (
             is_register of,
-            declared_is file t it shaped w.declaration w.node w.is.at w.is.external a n here names declaration
+            declared_is file t it w.declaration w.node w.is.at w.is.external a n here names declaration
                 ∙ ap (λ c. if c then TypeName else value_by tree.nodes.now of (entry_at typing a).own.declarator.function row) none.0
                 ∙ ap (λ x. value_by tree.nodes.now of x row) (ap (λ (d : Declarator). d.function) own ∙ none.1),
           ),
@@ -180,30 +158,30 @@ module _ (file : List ℕ) (t : Typed) (it : IsUnitOfFile file t) (shaped : IsSh
     pub initialised_known : is_type (named a) ≡ true
     initialised_known =
         known_type a initialised_object
-        (is_known_there file t it shaped w.declaration w.node w.is.at w.is.external a n here names declaration (types_known file t it shaped sighted)
+        (is_known_there file t it w.declaration w.node w.is.at w.is.external a n here names declaration (types_known file t it)
         (no_type (storage_of t.nodes w.node.parts) (declarator_of t.nodes r).next w.value))
 
     nothing_broken : HoldsAll (faults_in n.kind (entry_at typing a).linked tree (before_in shapes (cut a typing)).specified (entry_at typing a).own.declarator (past_in shapes (cut a typing)) (now_at shapes typing a) a n)
-    nothing_broken b among = holds file t it shaped b (record { node = a; among = subst (λ x. IsNodeBreak tree texts shapes (cut a typing) (entry_at typing a) a x b) (sym at) (inr (inr (inr among))) })
+    nothing_broken b among = holds file t it b (record { node = a; among = subst (λ x. IsNodeBreak tree texts shapes (cut a typing) (entry_at typing a) a x b) (sym at) (inr (inr (inr among))) })
 
     -- K9: the type that its initialiser completes agrees with those before
     agrees : disagrees (name_type_in (past_in shapes (cut a typing)).composite (slice_get n.parts 0)) (now_at shapes typing a) ≡ false
     agrees =
         unbroken_at 9 token (name_in tree.nodes.now (slice_get n.parts 0)) (disagrees (name_type_in (past_in shapes (cut a typing)).composite (slice_get n.parts 0)) (now_at shapes typing a))
-        (ap (name_in tree.nodes.now) first ∙ ap (λ ns. (declarator_of ns r).name) (sym (nodes_are file t it shaped)) ∙ w.is.name)
+        (ap (name_in tree.nodes.now) first ∙ ap (λ ns. (declarator_of ns r).name) (sym (nodes_are file t it)) ∙ w.is.name)
         (subst (λ k. HoldsAll (faults_in k (entry_at typing a).linked tree (before_in shapes (cut a typing)).specified (entry_at typing a).own.declarator (past_in shapes (cut a typing)) (now_at shapes typing a) a n)) is nothing_broken)
 
     before_it : name_type_in (past_in shapes (cut a typing)).composite (slice_get n.parts 0) ≡ of_object (composite r)
     before_it = ap (name_type_in (past_in shapes (cut a typing)).composite) first ∙ composite_is r its a low
 
     declarator_known : is_type (named r) ≡ true
-    declarator_known = known_type r its (value_is_known file t it shaped sighted token w)
+    declarator_known = known_type r its (value_is_known file t it token w)
 
     pub initialised_becomes : Becomes (composite r) (composite a)
     initialised_becomes =
         earlier_becomes a n at initialised_object r
         (ap (λ k. name_type_in (past_in shapes (cut a typing)).composite (same_by k (slice_index_or typing.linked a None) (slice_index_or tree.same.now a None) n)) is ∙ before_it)
-        (they_agree (composite r) (named a) (becomes_typed (named r) (composite r) (own_becomes r o.node (there file t it shaped r o.node o.at) its) ∙ declarator_known) initialised_known
+        (they_agree (composite r) (named a) (becomes_typed (named r) (composite r) (own_becomes r o.node (there file t it r o.node o.at) its) ∙ declarator_known) initialised_known
         (ap (λ x. disagrees x (of_object (named a))) (sym before_it)
         ∙ ap (disagrees (name_type_in (past_in shapes (cut a typing)).composite (slice_get n.parts 0))) (sym (type_is a initialised_object)) ∙ agrees))
 
@@ -220,11 +198,11 @@ module _ (file : List ℕ) (t : Typed) (it : IsUnitOfFile file t) (shaped : IsSh
     rises : earlier_one < q
     rises = in_order_is file t it other one w.declaration earlier_one v.declaration q w.node v.node w.is v.is less
 
-    mine : IsOwned file t it shaped one v.declaration q v.node
-    mine = owned file t it shaped one v.declaration q v.node v.is
+    mine : IsOwned file t it one v.declaration q v.node
+    mine = owned file t it one v.declaration q v.node v.is
 
     is_linked : IsLinked tree shapes typing q
-    is_linked = declarations tree texts shapes typing (is_typing file t it shaped) (holds file t it shaped) q mine.node (there file t it shaped q mine.node mine.at) mine.is has
+    is_linked = declarations tree texts shapes typing (is_typing file t it) (holds file t it) q mine.node (there file t it q mine.node mine.at) mine.is has
 
     read : same_at tree q ≡ Some (raised it.unit.nodes it.checked.checked.surroundings.above earlier_one q)
     read = columns_find file t it one other v.declaration q w.declaration earlier_one v.node w.node v.is w.is last
@@ -232,23 +210,23 @@ module _ (file : List ℕ) (t : Typed) (it : IsUnitOfFile file t) (shaped : IsSh
     from : (a : ℕ) (n : Node) → slice_get tree.nodes.now a ≡ Some n → same_at tree q ≡ Some a → a < q → DeclaresObject typing a → is_type (named a) ≡ true → Becomes (composite a) (composite q)
     from a n at same below there_object known =
         let before_it : earlier_at tree shapes typing q ≡ of_object (composite a) = ap (name_type_in (past_in shapes (cut q typing)).composite) same ∙ composite_is a there_object q below in
-        earlier_becomes q mine.node (there file t it shaped q mine.node mine.at) object a
+        earlier_becomes q mine.node (there file t it q mine.node mine.at) object a
         (ap (name_type_in (past_in shapes (cut q typing)).composite) (same_declarator mine.node.kind (slice_index_or typing.linked q None) _ (same_at tree q) mine.node mine.is is_linked.linked) ∙ before_it)
-        (they_agree (composite a) (named q) (becomes_typed (named a) (composite a) (own_becomes a n at there_object) ∙ known) (known_type q object (value_is_known file t it shaped sighted one v))
+        (they_agree (composite a) (named q) (becomes_typed (named a) (composite a) (own_becomes a n at there_object) ∙ known) (known_type q object (value_is_known file t it one v))
         (ap (λ x. disagrees x (of_object (named q))) (sym before_it) ∙ ap (disagrees (earlier_at tree shapes typing q)) (sym (type_is q object))
-        ∙ is_linked.agrees one (ap (λ ns. (declarator_of ns q).name) (sym (nodes_are file t it shaped)) ∙ v.is.name)))
+        ∙ is_linked.agrees one (ap (λ ns. (declarator_of ns q).name) (sym (nodes_are file t it)) ∙ v.is.name)))
 
     pub next_becomes : Becomes (composite earlier_one) (composite q)
     next_becomes = elim (raised_is it.unit.nodes it.checked.checked.surroundings.above earlier_one q) [
       | inl e ↦
-          (let o = owned file t it shaped other w.declaration earlier_one w.node w.is in
-          from earlier_one o.node (there file t it shaped earlier_one o.node o.at) (read ∙ ap Some e) rises its (known_type earlier_one its (value_is_known file t it shaped sighted other w)))
+          (let o = owned file t it other w.declaration earlier_one w.node w.is in
+          from earlier_one o.node (there file t it earlier_one o.node o.at) (read ∙ ap Some e) rises its (known_type earlier_one its (value_is_known file t it other w)))
       | inr x ↦
           (let a = x.0 in
           let i = x.1.1 in
           let here : slice_get t.nodes a ≡ Some i.node = ap (λ ns. slice_get ns a) made_by.elaborated.nodes_are ∙ i.at in
           becomes_further (composite earlier_one) (composite a) (composite q) (initialised_becomes other w its a i.node here i.is i.first)
-          (from a i.node (there file t it shaped a i.node here) (read ∙ ap Some x.1.0) i.below (initialised_object other w its a i.node here i.is i.first) (initialised_known other w its a i.node here i.is i.first)))
+          (from a i.node (there file t it a i.node here) (read ∙ ap Some x.1.0) i.below (initialised_object other w its a i.node here i.is i.first) (initialised_known other w its a i.node here i.is i.first)))
     ]
 
   -- with its initialiser, where the next one stands behind that
@@ -258,7 +236,7 @@ module _ (file : List ℕ) (t : Typed) (it : IsUnitOfFile file t) (shaped : IsSh
     above : slice_index_or it.checked.checked.surroundings.above w.declarator None ≡ Some a
     above =
         ap (λ column. slice_index_or column w.declarator None) (sym made_by.is.whole.tree.above)
-        ∙ (shaped.parts a n (there file t it shaped a n here) 0 w.declarator first).above
+        ∙ ((shaped file t it).parts a n (there file t it a n here) 0 w.declarator first).above
 
     raised_here : raised it.unit.nodes it.checked.checked.surroundings.above w.declarator v.declarator ≡ a
     raised_here =
@@ -270,7 +248,7 @@ module _ (file : List ℕ) (t : Typed) (it : IsUnitOfFile file t) (shaped : IsSh
 
     pub behind_becomes : Becomes (composite a) (composite v.declarator)
     behind_becomes =
-        from one other v w object its less last has a n (there file t it shaped a n here) (read one other v w object its less last has ∙ ap Some raised_here) behind
+        from one other v w object its less last has a n (there file t it a n here) (read one other v w object its less last has ∙ ap Some raised_here) behind
         (initialised_object other w its a n here is first) (initialised_known other w its a n here is first)
 
   -- ---- all further ones
@@ -287,7 +265,7 @@ module _ (file : List ℕ) (t : Typed) (it : IsUnitOfFile file t) (shaped : IsSh
     | inl more ↦
         (let here = values_share file t it x.last one k x.has mine v in
         let early = x.low in
-        let between = follows_at file t it shaped sighted one x.last k v.declaration v.declarator here.declaration here.declarator v.node here.node v.is here.is mine x.has object x.low in
+        let between = follows_at file t it one x.last k v.declaration v.declarator here.declaration here.declarator v.node here.node v.is here.is mine x.has object x.low in
         becomes_further (composite p) (composite here.declarator) (composite v.declarator) (chain_from p fuel x.last other k (omega (arith, low, early)) more x.has its here between next)
         (next_becomes one x.last v here object between x.low last linked))
     | inr past ↦
@@ -303,7 +281,7 @@ module _ (file : List ℕ) (t : Typed) (it : IsUnitOfFile file t) (shaped : IsSh
       last = ap (before_of it.names one) (entity_of_declared it.names one k mine) ∙ x.is
 
       linked : has_linkage (does_at tree shapes typing v.declarator).linkage ≡ true
-      linked = (shared file t it shaped one x.last k v.declaration v.declarator v.node v.is mine x.has (λ e. (let early = x.low in absurd (omega (arith, early, e)))) object).linked
+      linked = (shared file t it one x.last k v.declaration v.declarator v.node v.is mine x.has (λ e. (let early = x.low in absurd (omega (arith, early, e)))) object).linked
 
   pub chain : (one other k : ℕ) → other < one → declared_entity it.names one ≡ Some k → declared_entity it.names other ≡ Some k → (v : DeclaresValue t.nodes one) (w : DeclaresValue t.nodes other)
       → DeclaresObject typing v.declarator → DeclaresObject typing w.declarator → Becomes (composite w.declarator) (composite v.declarator)

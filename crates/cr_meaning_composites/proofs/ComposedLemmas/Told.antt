@@ -1,10 +1,9 @@
 -- The name of a declared object or function is told by the events of the unit, since what stands around its declaration are statements and
 -- definitions, each of which tells its parts; so it has an entity (C11 6.2.1p7, 6.8.2).
-use Rattle.std.proofs.Common.{◌≡◌, ℕ, zero, suc, ◌+◌, ◌<◌, ◌≤◌, ◌==◌, ◌⊎◌, inl, inr, Bool, true, false, not, ◌&&◌, cond, List, [], ◌∷◌, ◌++◌, Option, None, Some, length, drop, slice_get, refl, sym, ap, subst, ◌∙◌, arith}
-use Rattle.std.specs.List.{count_by, list_any, flat_map}
+use Rattle.std.proofs.Common.{◌≡◌, ℕ, zero, suc, ◌+◌, ◌<◌, ◌≤◌, ◌==◌, ◌⊎◌, inl, inr, Bool, true, false, not, ◌&&◌, List, [], ◌∷◌, ◌++◌, Option, None, Some, length, drop, slice_get, refl, sym, ap, subst, ◌∙◌, arith}
+use Rattle.std.specs.List.{list_any, flat_map}
 use Rattle.std.proofs.lemmas.Bool.{false≢true, both_ways, not-true, and_parts, eqb-true}
-use Rattle.std.proofs.lemmas.List.Sums.{sum_by-cons}
-use Rattle.std.proofs.lemmas.Option.{slice_get_within}
+use Rattle.std.proofs.lemmas.Option.{slice_get_within, same_Some}
 use Rattle.cr_tokens.specs.declared.token.Token.{Token}
 use Rattle.cr_syntax.specs.declared.node.Kind.{Kind}
 use Rattle.cr_syntax.specs.declared.node.Kind.TheVariants as kind
@@ -12,7 +11,6 @@ use Rattle.cr_syntax.specs.declared.node.Node.{Node}
 use Rattle.cr_syntax.specs.declared.part.Part.{Part}
 use Rattle.cr_syntax.specs.Tables.{rule_of, side_of}
 use Rattle.cr_syntax.specs.Kept.{row_in}
-use Rattle.cr_syntax_order.specs.Listed.{AreListed}
 use Rattle.cr_syntax_nodes.specs.Laid.{stands_for}
 use Rattle.cr_scopes_events.specs.declared.event.Role.{Role}
 use Rattle.cr_scopes_events.specs.Declarators.{declarator_of}
@@ -32,19 +30,16 @@ use Rattle.cr_typed.specs.declared.typed.Typed.{Typed}
 use Rattle.cr_meaning_declarations.specs.Units.Owned.{AreOfUnit}
 use Rattle.cr_meaning_declarations.proofs.UnitsLemmas.Rows.{clear_side, clear_laid, clear_at}
 use Rattle.cr_meaning_declarations.proofs.UnitsLemmas.Handing.{laid_at, parts_below}
-use Rattle.cr_meaning_declarations.proofs.NamesLemmas.Parents.{IsPartOf, part_below, above_is, above_some}
-use Rattle.cr_meaning_types.specs.Known.Shaped.{fits, IsPart, IsShaped}
+use Rattle.cr_meaning_declarations.proofs.NamesLemmas.Parents.{IsPartOf, part_below, above_is, above_some, times, weight, once_more}
+use Rattle.cr_meaning_types.specs.Known.Shaped.{fits, IsPart}
 use Rattle.cr_meaning_declarations.specs.Declared.Files.{IsUnitOfFile}
-use Rattle.cr_meaning_declarations.proofs.DeclaredLemmas.Nodes.{of_unit}
 use Rattle.cr_meaning_declarations.specs.Linked.Laws.{DeclaresValue}
-use Rattle.cr_meaning_declarations.proofs.LinkedLemmas.Order.{order_of}
+use Rattle.cr_meaning_declarations.proofs.DeclaredLemmas.Files.{has_unit}
+use Rattle.cr_meaning_declarations.proofs.LinkedLemmas.Order.{standing, stands_alone, among, place_of, external_alone, without, clears, alone_above}
 use Rattle.cr_meaning_composites.proofs.ChainedLemmas.Known.{there}
 use Rattle.cr_meaning_composites.proofs.MainsLemmas.Defined.{values}
 use Rattle.cr_meaning_composites.specs.Composed.Laws
-use Rattle.cr_meaning_composites.proofs.ComposedLemmas.Apart.{standing, stands_alone, without, among, place_of, clears, external_alone, alone_above}
-
-some_same : {A : Type 0} (x y : A) → Some x ≡ Some y → x ≡ y
-some_same x y e = cc
+use Rattle.cr_meaning_references.proofs.TreesLemmas.Shaped.{shaped}
 
 -- ---- what stands alone, but for blocks
 
@@ -67,7 +62,7 @@ loose_place : (k : Kind) → is_loose k ≡ true → (i : ℕ) × (slice_get (dr
 loose_place k h = let both = and_parts (stands_alone k) (not (is_block k)) h in by both.1 (place_of k both.0)
   where
     by : not (is_block k) ≡ true → (i : ℕ) × (slice_get standing i ≡ Some k) → (i : ℕ) × (slice_get (drop 1 standing) i ≡ Some k)
-    by loose (zero, e) = let same : kind.Compound ≡ k = some_same kind.Compound k e in absurd (false≢true (ap (λ x. not (is_block x)) same ∙ loose))
+    by loose (zero, e) = let same : kind.Compound ≡ k = same_Some kind.Compound k e in absurd (false≢true (ap (λ x. not (is_block x)) same ∙ loose))
     by loose (suc i, e) = (i, e)
 
 loose_clears : (p : Part) (k : Kind) → without_loose p ≡ true → stands_for p k ≡ true → is_loose k ≡ false
@@ -112,15 +107,6 @@ sort_of k h = absurd (false≢true h)
 
 -- ---- a node without a node above it is an item (6.9)
 
-abbrev times : List ℕ → ℕ → ℕ
-times ps k = count_by (λ p. p == k) ps
-
-once_more : (p k : ℕ) (ps : List ℕ) → times (p ∷ ps) k ≡ cond (p == k) 1 0 + times ps k
-once_more p k ps = sum_by-cons (λ x. cond (x == k) 1 0) p ps
-
-abbrev weight : Bool → ℕ
-weight b = cond b 1 0
-
 has_place : (ps : List ℕ) (p : ℕ) → 1 ≤ times ps p → (k : ℕ) × (slice_get ps k ≡ Some p)
 has_place [] p h = absurd (omega (arith, h))
 has_place (q ∷ ps) p h = by (q == p) refl (λ f. has_place ps p f)
@@ -158,12 +144,8 @@ module _ (t : Typed) (u : AreOfUnit t) where
       never : (a : ℕ) → above_of t.nodes (length t.nodes) p ≡ Some a → ⊥
       never a f = let both : None ≡ Some a = sym e ∙ f in absurd (cc both)
 
-module _ (file : List ℕ) (t : Typed) (it : IsUnitOfFile file t) (shaped : IsShaped it.checked.by.tree) where
-  unit : AreOfUnit t
-  unit = of_unit file t it
-
-  order : AreListed t.nodes 0 t.items (length t.nodes)
-  order = order_of file t it
+module _ (file : List ℕ) (t : Typed) (it : IsUnitOfFile file t) where
+  open has_unit file t it use {unit, order}
 
   abbrev tokens : List Token
   tokens = it.unit.tokens.list.items
@@ -174,7 +156,7 @@ module _ (file : List ℕ) (t : Typed) (it : IsUnitOfFile file t) (shaped : IsSh
   of_side test clear clears x y h n at side =
       let row = clear_laid test clear clears unit.tokens (side_of h.parent.kind) (row_in t.nodes h.parent.parts) h.parent.first (h.parent.last + 1) side (laid_at t unit y h.parent h.at) in
       let one = clear_at test clear clears t.nodes unit.below h.parent.parts (parts_below t unit y h.parent h.at) row h.place x h.is in
-      let same : one.0 ≡ n = some_same one.0 n (sym one.1.0 ∙ at) in
+      let same : one.0 ≡ n = same_Some one.0 n (sym one.1.0 ∙ at) in
       ap (λ (z : Node). test z.kind) (sym same) ∙ one.1.1
 
   -- ---- what is told around
@@ -202,8 +184,8 @@ module _ (file : List ℕ) (t : Typed) (it : IsUnitOfFile file t) (shaped : IsSh
 
         fits_there : (place : ℕ) → slice_get h.parent.parts place ≡ Some x → fits kind.FunctionDefinition place kind.Compound ≡ true
         fits_there place e =
-            let part : IsPart it.checked.by.tree y h.parent place x = shaped.parts y h.parent (there file t it shaped y h.parent h.at) place x e in
-            let same : part.own ≡ n = some_same part.own n (sym part.at ∙ there file t it shaped x n at) in
+            let part : IsPart it.checked.by.tree y h.parent place x = (shaped file t it).parts y h.parent (there file t it y h.parent h.at) place x e in
+            let same : part.own ≡ n = same_Some part.own n (sym part.at ∙ there file t it x n at) in
             ap (λ k. fits k place kind.Compound) (sym is) ∙ ap (fits h.parent.kind place) (sym block ∙ ap (λ (z : Node). z.kind) (sym same)) ∙ part.fits
 
         by : (place : ℕ) → slice_get h.parent.parts place ≡ Some x → Tells y
@@ -261,4 +243,4 @@ module _ (file : List ℕ) (t : Typed) (it : IsUnitOfFile file t) (shaped : IsSh
             has_entity (spelled_name file tokens) (unit_events it.unit) (length tokens) it.names token it.known (values file t it) x.0 (is_there token own_role (unit_events it.unit) value_told) x.1
 
 pub declared : Laws.DeclaredValuesHaveEntities
-declared file t it shaped token v = entity file t it shaped token v
+declared file t it token v = entity file t it token v

@@ -2,11 +2,10 @@
 -- one declaration at most has a body.
 use Rattle.std.proofs.Common.{◌≡◌, ℕ, zero, suc, ◌+◌, ◌<◌, ◌⊎◌, inl, inr, Bool, true, false, List, Option, None, Some, length, slice_get, refl, sym, ap, subst, ◌∙◌, arith}
 use Rattle.std.proofs.lemmas.Bool.{cases_lt, cases_eq, false≢true}
-use Rattle.std.proofs.lemmas.Option.{slice_get_within}
+use Rattle.std.proofs.lemmas.Option.{slice_get_within, same_Some}
 use Rattle.cr_syntax.specs.declared.node.Kind.{Kind}
 use Rattle.cr_syntax.specs.declared.node.Kind.TheVariants as kind
 use Rattle.cr_syntax.specs.declared.node.Node.{Node as SyntaxNode}
-use Rattle.cr_syntax_order.specs.Listed.{AreListed}
 use Rattle.cr_scopes_events.specs.declared.event.Role.{Role}
 use Rattle.cr_scopes_events.specs.declared.event.Role.TheVariants as role
 use Rattle.cr_scopes_events.specs.declared.event.Event.{Event}
@@ -22,7 +21,6 @@ use Rattle.cr_scopes.specs.Faults.{is_typedef}
 use Rattle.cr_scopes.specs.Resolved.{with_event, past_of}
 use Rattle.cr_scopes.specs.Spelled.{spelling_of, name_of}
 use Rattle.cr_scopes.specs.Units.{unit_events}
-use Rattle.cr_scopes_visibility.specs.Alone.Sight.{is_used}
 use Rattle.cr_scopes_linkage.specs.Shared.Sorts.{is_value, is_tag, Never}
 use Rattle.cr_scopes_linkage.specs.Shared.Origins.{is_external, is_tagged, IsDeclarer, IsTold, declared, tagged, otherwise, AreTold}
 use Rattle.cr_scopes_linkage.proofs.SharedLemmas.Told.{all_told}
@@ -32,19 +30,15 @@ use Rattle.cr_scopes_typedef_names.proofs.TellingsLemmas.Scripts.{all_told as al
 use Rattle.cr_scopes_linkage.specs.Functions.Functions.{is_no_function, is_other, IsFunction, AreValues}
 use Rattle.cr_scopes_linkage.proofs.FunctionsLemmas.Shared.{share}
 use Rattle.cr_scopes_linkage.proofs.FunctionsLemmas.Told.{told}
+use Rattle.cr_scopes_linkage.proofs.SharedLemmas.Looked.{tag_no_value}
 use Rattle.cr_typed.specs.declared.typed.Typed.{Typed}
-use Rattle.cr_typed_unit.specs.Typed.{IsTypedBy}
-use Rattle.cr_meaning_declarations.specs.Units.Owned.{AreOfUnit}
-use Rattle.cr_meaning_declarations.proofs.NamesLemmas.Leaves as leaves
 use Rattle.cr_meaning_declarations.proofs.NamesLemmas.Leaves.{is_named, named_once, no_tag, no_use}
 use Rattle.cr_meaning_declarations.proofs.NamesLemmas.Parents.{is_deriving, IsPartOf, one_parent, IsInside, as_part, whole_is}
-use Rattle.cr_meaning_declarations.proofs.NamesLemmas.Walks.{some_same}
-use Rattle.cr_meaning_types.specs.Known.Shaped.{IsShaped}
-use Rattle.cr_meaning_types.specs.Known.Sighted.{AreSighted}
 use Rattle.cr_meaning_declarations.specs.Declared.Files.{IsUnitOfFile}
-use Rattle.cr_meaning_declarations.proofs.DeclaredLemmas.Nodes.{of_unit}
 use Rattle.cr_meaning_declarations.proofs.DeclaredLemmas.Bodies.{node_of}
 use Rattle.cr_meaning_declarations.proofs.LinkedLemmas.Owned.{HasOwn, own_there, part_of, in_init, alone, one_declaration, one_role}
+use Rattle.cr_meaning_declarations.proofs.DeclaredLemmas.Files.{has_unit}
+use Rattle.cr_meaning_declarations.proofs.LinkedLemmas.Sorts.{tagged_same}
 use Rattle.cr_meaning_composites.proofs.ChainedLemmas.Words.{value_is}
 use Rattle.cr_meaning_composites.proofs.ChainedLemmas.Known.{owned, function_plain, definition_declares}
 use Rattle.cr_meaning_composites.proofs.ChainedLemmas.Chained.{one_body}
@@ -69,16 +63,8 @@ value_plain role.ExternObject h = refl
 value_plain role.Function h = refl
 value_plain r h = absurd (false≢true h)
 
-rest_plain : (r : Role) → is_typedef r ≡ false → is_tag r ≡ false → is_used r ≡ false → is_other r ≡ false
-rest_plain role.Typedef a b c = absurd (false≢true (sym a))
-rest_plain role.Content a b c = absurd (false≢true (sym b))
-rest_plain role.Alone a b c = absurd (false≢true (sym b))
-rest_plain role.Mentioned a b c = absurd (false≢true (sym b))
-rest_plain role.Used a b c = absurd (false≢true (sym c))
-rest_plain r a b c = refl
-
 -- what a declaration tells is a value or a type
-value_or_type : (s : Storage) (next : Derivation) → (is_value (role_by s next) ≡ true) ⊎ (is_typedef (role_by s next) ≡ true)
+pub value_or_type : (s : Storage) (next : Derivation) → (is_value (role_by s next) ≡ true) ⊎ (is_typedef (role_by s next) ≡ true)
 value_or_type TypedefWord next = inr refl
 value_or_type ExternWord derivation.Nothing = inl refl
 value_or_type ExternWord (derivation.Function f) = inl refl
@@ -92,19 +78,6 @@ tag_same role.Content h = refl
 tag_same role.Alone h = refl
 tag_same role.Mentioned h = refl
 tag_same r h = absurd (false≢true h)
-
-tag_no_value : (r : Role) → is_tag r ≡ true → is_value r ≡ false
-tag_no_value role.Content h = refl
-tag_no_value role.Alone h = refl
-tag_no_value role.Mentioned h = refl
-tag_no_value r h = absurd (false≢true h)
-
-tagged_same : (k : Kind) → is_tagged k ≡ true → leaves.is_tagged k ≡ true
-tagged_same kind.StructTag h = refl
-tagged_same kind.EnumTag h = refl
-tagged_same kind.StructContent h = refl
-tagged_same kind.EnumContent h = refl
-tagged_same k h = absurd (false≢true h)
 
 parameter_only : (k : Kind) → tellings.is_parameter k ≡ true → k ≡ kind.Parameter
 parameter_only kind.Parameter h = refl
@@ -173,19 +146,8 @@ told_past nodes events (suc n) k token r h less e = elim (cases_lt k n) [
     before (Some (Node i)) h = h
 
 module _ (file : List ℕ) (t : Typed) (it : IsUnitOfFile file t) where
-  unit : AreOfUnit t
-  unit = of_unit file t it
-
-  abbrev made_by : IsTypedBy file it.unit it.names it.checked.checked t
-  made_by = it.checked.by
-
-  nodes_are : it.unit.nodes ≡ t.nodes
-  nodes_are = sym made_by.elaborated.nodes_are
-
-  order : AreListed t.nodes 0 t.items (length t.nodes)
-  order =
-      subst (λ is. AreListed t.nodes 0 is (length t.nodes)) (sym made_by.elaborated.items_are)
-      (subst (λ ns. AreListed ns 0 it.unit.items (length ns)) nodes_are it.listed)
+  open it use {made_by}
+  open has_unit file t it use {unit, nodes_are, order}
 
   abbrev events : List Event
   events = unit_events it.unit
@@ -226,14 +188,14 @@ module _ (file : List ℕ) (t : Typed) (it : IsUnitOfFile file t) where
         | inr f ↦
             (let x = one_parent t unit q d.part p.node (in_init t unit order token i q m d f.0 f.1) (subst (λ y. IsPartOf t unit y p.node) (e ∙ same) part_p) in
             let k : Some kind.InitDeclarator ≡ Some p.own.kind = sym f.0 ∙ ap (scripts.kind_at t.nodes) x ∙ ap scripts.kind_if p.at in
-            let never : kind.InitDeclarator ≡ kind.Parameter = some_same kind.InitDeclarator p.own.kind k ∙ own_kind in
+            let never : kind.InitDeclarator ≡ kind.Parameter = same_Some kind.InitDeclarator p.own.kind k ∙ own_kind in
             cc never)
       ]
       | inr e ↦ elim d.declares [
         | inl f ↦
             (let x = one_parent t unit q i p.part (subst (λ y. IsPartOf t unit y i) f (part_of t unit order token i q m d)) (subst (λ y. IsPartOf t unit y p.part) same (in_first_p e.0 e.1)) in
             let k : Some m.kind ≡ Some kind.InitDeclarator = ap scripts.kind_if (sym d.at) ∙ ap (scripts.kind_at t.nodes) x ∙ e.0 in
-            let is : m.kind ≡ kind.InitDeclarator = some_same m.kind kind.InitDeclarator k in
+            let is : m.kind ≡ kind.InitDeclarator = same_Some m.kind kind.InitDeclarator k in
             false≢true (ap is_external (sym is) ∙ d.external))
         | inr f ↦
             (let x = one_parent t unit q d.part p.part (in_init t unit order token i q m d f.0 f.1) (subst (λ y. IsPartOf t unit y p.part) same (in_first_p e.0 e.1)) in
@@ -252,7 +214,7 @@ module _ (file : List ℕ) (t : Typed) (it : IsUnitOfFile file t) where
 
         apart : i ≡ p.node → ⊥
         apart e =
-            let one : m ≡ p.own = some_same m p.own (sym d.at ∙ ap (slice_get t.nodes) e ∙ p.at) in
+            let one : m ≡ p.own = same_Some m p.own (sym d.at ∙ ap (slice_get t.nodes) e ∙ p.at) in
             let is : m.kind ≡ kind.Parameter = ap (λ (y : SyntaxNode). y.kind) one ∙ own_kind in
             false≢true (ap is_external (sym is) ∙ d.external)
 
@@ -261,12 +223,12 @@ module _ (file : List ℕ) (t : Typed) (it : IsUnitOfFile file t) where
         alone_p b inner = elim p.declares [
           | inl e ↦
               (let x = one_parent t unit p.declarator p.node b (subst (λ y. IsPartOf t unit y p.node) e part_p) (as_part t unit p.declarator b inner) in
-              let one : p.own ≡ inner.outer = some_same p.own inner.outer (sym p.at ∙ ap (slice_get t.nodes) x ∙ inner.at) in
+              let one : p.own ≡ inner.outer = same_Some p.own inner.outer (sym p.at ∙ ap (slice_get t.nodes) x ∙ inner.at) in
               false≢true (ap (is_deriving t unit) (sym own_kind ∙ ap (λ (y : SyntaxNode). y.kind) one) ∙ inner.derives))
           | inr e ↦
               (let x = one_parent t unit p.declarator p.part b (in_first_p e.0 e.1) (as_part t unit p.declarator b inner) in
               let k : Some kind.InitDeclarator ≡ Some inner.outer.kind = sym e.0 ∙ ap (scripts.kind_at t.nodes) x ∙ ap scripts.kind_if inner.at in
-              false≢true (ap (is_deriving t unit) (some_same kind.InitDeclarator inner.outer.kind k) ∙ inner.derives))
+              false≢true (ap (is_deriving t unit) (same_Some kind.InitDeclarator inner.outer.kind k) ∙ inner.derives))
         ]
 
         same : p.declarator ≡ q
@@ -285,7 +247,7 @@ module _ (file : List ℕ) (t : Typed) (it : IsUnitOfFile file t) where
         let first = e.first in
         let w = (unit.within e.node e.own e.at).0 in
         let one : own.own ≡ e.node = named_once t unit order own.own e.node own.node e.own token own.at own.is own.first e.at (ap is_named is) (omega (arith, first)) (omega (arith, first)) (omega (arith, first, w)) in
-        let node : own.node ≡ e.own = some_same own.node e.own (sym own.at ∙ ap (slice_get t.nodes) one ∙ e.at) in
+        let node : own.node ≡ e.own = same_Some own.node e.own (sym own.at ∙ ap (slice_get t.nodes) one ∙ e.at) in
         let never : kind.NameDeclarator ≡ kind.Enumerator = sym own.is ∙ ap (λ (y : SyntaxNode). y.kind) node ∙ is in
         cc never
 
@@ -333,34 +295,33 @@ module _ (file : List ℕ) (t : Typed) (it : IsUnitOfFile file t) where
 
   -- ---- definitions
 
-  module _ (shaped : IsShaped it.checked.by.tree) where
-    is_function : (token i q k : ℕ) (m : SyntaxNode) → IsDeclarer t.nodes token i q m → m.kind ≡ kind.FunctionDefinition → slice_get t.items k ≡ Some i → IsFunction token whole
-    is_function token i q k m d is e = record {
-      named =
-          told it.unit.tokens.list.items it.unit.nodes it.unit.items k i q token m (ap (λ is. slice_get is k) (sym made_by.elaborated.items_are) ∙ e) (subst (λ ns. IsDeclarer ns token i q m) (sym nodes_are) d) is;
-      each = never_past is_no_function events token (λ j r f. ap is_no_function (sym (each token i q m d j r f) ∙ own_role)) (length events);
-    }
-      where
-        value : is_value (role_by (storage_of t.nodes m.parts) (declarator_of t.nodes q).next) ≡ true
-        value =
-            let o = owned file t it shaped token i q m d in
-            value_is (storage_of t.nodes m.parts) (declarator_of t.nodes q).next
-            (function_plain file t it shaped i m d.at d.external q o.node o.at o.names o.declaration (definition_declares file t it shaped token i q m d is))
+  is_function : (token i q k : ℕ) (m : SyntaxNode) → IsDeclarer t.nodes token i q m → m.kind ≡ kind.FunctionDefinition → slice_get t.items k ≡ Some i → IsFunction token whole
+  is_function token i q k m d is e = record {
+    named =
+        told it.unit.tokens.list.items it.unit.nodes it.unit.items k i q token m (ap (λ is. slice_get is k) (sym made_by.elaborated.items_are) ∙ e) (subst (λ ns. IsDeclarer ns token i q m) (sym nodes_are) d) is;
+    each = never_past is_no_function events token (λ j r f. ap is_no_function (sym (each token i q m d j r f) ∙ own_role)) (length events);
+  }
+    where
+      value : is_value (role_by (storage_of t.nodes m.parts) (declarator_of t.nodes q).next) ≡ true
+      value =
+          let o = owned file t it token i q m d in
+          value_is (storage_of t.nodes m.parts) (declarator_of t.nodes q).next
+          (function_plain file t it i m d.at d.external q o.node o.at o.names o.declaration (definition_declares file t it token i q m d is))
 
-        own_role : role_by (storage_of t.nodes m.parts) (declarator_of t.nodes q).next ≡ role.Function
-        own_role =
-            let next = function_next file t it shaped token i q m d is in
-            function_role (storage_of t.nodes m.parts) (declarator_of t.nodes q).next next.0 next.1 value
+      own_role : role_by (storage_of t.nodes m.parts) (declarator_of t.nodes q).next ≡ role.Function
+      own_role =
+          let next = function_next file t it token i q m d is in
+          function_role (storage_of t.nodes m.parts) (declarator_of t.nodes q).next next.0 next.1 value
 
-    once : AreSighted it.checked.by.tree → (one other i q j r k l : ℕ) (m n : SyntaxNode) → IsDeclarer t.nodes one i q m → IsDeclarer t.nodes other j r n → m.kind ≡ kind.FunctionDefinition → n.kind ≡ kind.FunctionDefinition
-        → slice_get t.items k ≡ Some i → slice_get t.items l ≡ Some j → spelling_of file it.unit.tokens.list.items one ≡ spelling_of file it.unit.tokens.list.items other → i ≡ j
-    once sighted one other i q j r k l m n d e is has f g same =
-        let low = few one i q m d in
-        let less = few other j r n e in
-        let named = alike file it.unit.tokens.list.items one other low less same in
-        let entity = share (name_of file it.unit.tokens.list.items) events (length it.unit.tokens.list.items) it.names one other it.known values low less (is_function one i q k m d is f) (is_function other j r l n e has g) named in
-        let tokens : one ≡ other = one_body file t it shaped sighted one other entity.0 i q j r m n d e entity.1.0 entity.1.1 is has in
-        one_declaration t unit order other i q j r m n (subst (λ x. IsDeclarer t.nodes x i q m) tokens d) e
+  once : (one other i q j r k l : ℕ) (m n : SyntaxNode) → IsDeclarer t.nodes one i q m → IsDeclarer t.nodes other j r n → m.kind ≡ kind.FunctionDefinition → n.kind ≡ kind.FunctionDefinition
+      → slice_get t.items k ≡ Some i → slice_get t.items l ≡ Some j → spelling_of file it.unit.tokens.list.items one ≡ spelling_of file it.unit.tokens.list.items other → i ≡ j
+  once one other i q j r k l m n d e is has f g same =
+      let low = few one i q m d in
+      let less = few other j r n e in
+      let named = alike file it.unit.tokens.list.items one other low less same in
+      let entity = share (name_of file it.unit.tokens.list.items) events (length it.unit.tokens.list.items) it.names one other it.known values low less (is_function one i q k m d is f) (is_function other j r l n e has g) named in
+      let tokens : one ≡ other = one_body file t it one other entity.0 i q j r m n d e entity.1.0 entity.1.1 is has in
+      one_declaration t unit order other i q j r m n (subst (λ x. IsDeclarer t.nodes x i q m) tokens d) e
 
 pub defined_once : Laws.NamesAreDefinedOnce
-defined_once file t it shaped sighted one other i q j r k l m n d e is has f g same = once file t it shaped sighted one other i q j r k l m n d e is has f g same
+defined_once file t it one other i q j r k l m n d e is has f g same = once file t it one other i q j r k l m n d e is has f g same

@@ -1,10 +1,10 @@
 -- Main is the definition that was checked to have main's type (C11 5.1.2.2.1).
-use Rattle.std.proofs.Common.{◌≡◌, ℕ, ℤ, zero, suc, ◌<◌, ◌==◌, ◌&&◌, ◌||◌, inl, inr, Bool, true, false, not, List, [], ◌∷◌, Option, None, Some, length, map, slice_get, slice_index_or, refl, sym, ap, subst, ◌∙◌, arith, if◌then◌else◌}
+use Rattle.std.proofs.Common.{◌≡◌, ℕ, zero, suc, ◌<◌, ◌==◌, ◌&&◌, ◌||◌, inl, inr, Bool, true, false, not, List, [], ◌∷◌, Option, None, Some, length, map, slice_get, slice_index_or, refl, sym, ap, subst, ◌∙◌, arith, if◌then◌else◌}
 use Rattle.std.specs.Prelude.{codes}
 use Rattle.std.specs.List.{list_any}
 use Rattle.std.specs.Str.{bytes_eq}
 use Rattle.std.proofs.lemmas.Bool.{and_parts, and_from, cases_lt, false≢true, ne_eqb}
-use Rattle.std.proofs.lemmas.Option.{slice_get_within, get_or_from_slice_get}
+use Rattle.std.proofs.lemmas.Option.{slice_get_within, get_or_from_slice_get, same_Some}
 use Rattle.std.proofs.lemmas.Slice.Eq.{bytes_eq-Decides}
 use Rattle.cr_ints.specs.declared.kind.IntKind.TheVariants.{Int as IntegerKind}
 use Rattle.cr_tokens.specs.declared.token.Token.{Token}
@@ -17,11 +17,9 @@ use Rattle.cr_scopes_events.specs.Declarators.{declarator_of}
 use Rattle.cr_scopes_events.specs.Scripts as scripts
 use Rattle.cr_scopes.specs.Spelled as spelled
 use Rattle.cr_scopes_linkage.specs.Shared.Origins.{is_external, IsDeclarer}
-use Rattle.cr_check_types.specs.declared.shape.Shape.{Shape}
 use Rattle.cr_check_types.specs.Types.{Qualified, plain, pointer, array, type_at}
 use Rattle.cr_check_operands.specs.Places.{found_by}
-use Rattle.cr_check_expressions.specs.declared.known.Declared.{Declared}
-use Rattle.cr_check_expressions.specs.declared.known.Declared.TheVariants.{Function, Enumerator, TypeName, Unclear}
+use Rattle.cr_check_expressions.specs.declared.known.Declared.TheVariants.{Enumerator, TypeName, Unclear}
 use Rattle.cr_check_expressions.specs.Known as expressions
 use Rattle.cr_check_expressions.specs.Known.{meaning_by}
 use Rattle.cr_check_declarators.specs.declared.words.Class.{Class}
@@ -30,27 +28,25 @@ use Rattle.cr_check_declarators.specs.declared.declarator.Declarator.{Declarator
 use Rattle.cr_check_declarators.specs.declared.enumerators.Enumerated.{Enumerated}
 use Rattle.cr_check_declarators.specs.Functions.{is_int, is_plain_int}
 use Rattle.cr_check_declarations.specs.Before.{kind_in}
-use Rattle.cr_check_declarations.specs.Named.{class_of, is_typedef, value_by, ordinary_by, ordinary_of, names_ordinary, specifiers_in, constant_by, declared_by, declares_name}
+use Rattle.cr_check_declarations.specs.Named.{class_of, is_typedef, value_by, ordinary_by, ordinary_of, names_ordinary, specifiers_in, declared_by, declares_name}
 use Rattle.cr_check_definitions.specs.Known.{Known}
 use Rattle.cr_check_definitions.specs.Mains as mains
 use Rattle.cr_check_definitions.specs.Mains.{is_words, takes_nothing_or_words, has_mains_type, is_main_by, is_named_main, has_main}
 use Rattle.cr_check.specs.Columns.{known_in}
-use Rattle.cr_check_unit.specs.declared.typing.Typing.{Typing}
 use Rattle.cr_check_signatures.specs.Functions.Outlines.{head}
+use Rattle.cr_check_signatures.proofs.FunctionsLemmas.Chained.{row_or, keeps, constant_row}
 use Rattle.cr_typed.specs.declared.typed.Typed.{Typed}
 use Rattle.cr_typed_columns.specs.Reading.{Parsed, parsed_of}
 use Rattle.cr_typed_columns.specs.Entities.{declared_token, is_definition}
 use Rattle.cr_typed_columns.specs.Functions as functions
-use Rattle.cr_typed_unit.specs.Typed.{IsTypedBy}
 use Rattle.cr_meaning.specs.declared.run.Limits.{Limits}
 use Rattle.cr_meaning_soundness.specs.Sorts.{number, pointer as a_pointer, sorts_in}
 use Rattle.cr_meaning_soundness.specs.Programs.{AreMainParameters}
 use Rattle.cr_meaning_operations.specs.Shapes.{named_type, shape_of}
 use Rattle.cr_meaning_operations.specs.Operations.{kind_at, parts_if, part_at, object_shape, parameter_of, strings_of, program_of}
-use Rattle.cr_meaning_types.specs.Known.Shaped.{IsShaped}
-use Rattle.cr_meaning_types.specs.Known.Sighted.{AreSighted}
 use Rattle.cr_meaning_types.proofs.KnownLemmas.Naming.{ruled}
 use Rattle.cr_meaning_declarations.specs.Declared.Files.{IsUnitOfFile}
+use Rattle.cr_meaning_declarations.proofs.DeclaredLemmas.Files.{has_unit}
 use Rattle.cr_meaning_composites.specs.Chained.Laws.{DeclaresFunction}
 use Rattle.cr_meaning_composites.proofs.ChainedLemmas.Known.{holds, owned, definition_declares}
 use Rattle.cr_meaning_composites.specs.Parameters.Laws.{AreParameters}
@@ -58,9 +54,6 @@ use Rattle.cr_meaning_composites.proofs.ParametersLemmas.Parameters.{own_types}
 use Rattle.cr_meaning_composites.specs.Mains.Laws
 use Rattle.cr_meaning_composites.specs.Mains.Laws.{IsMain}
 use Rattle.cr_meaning_composites.proofs.MainsLemmas.Defined.{defined_once}
-
-some_same : {A : Type 0} (x y : A) → Some x ≡ Some y → x ≡ y
-some_same x y e = cc e
 
 -- ---- an entry of which a test holds
 
@@ -93,14 +86,6 @@ last_main file u (suc m) i low e = by (functions.is_main file u m) refl (λ less
 
 -- ---- the row of a function is that of the type that its declarator names
 
-abbrev row_or : ℕ → Declared → ℕ
-row_or other (Function row more) = row
-row_or other d = other
-
-keeps : (row : ℕ) (b : Bool) (x y : Declared) → row_or row x ≡ row → row_or row y ≡ row → row_or row (if b then x else y) ≡ row
-keeps row true x y h g = h
-keeps row false x y h g = g
-
 value_row : (nodes : List Node) (c : Option Class) (function : Option ℕ) (row : ℕ) → row_or row (value_by nodes c function row) ≡ row
 value_row nodes c None row = refl
 value_row nodes c (Some f) row = refl
@@ -109,14 +94,6 @@ ordinary_row : (nodes : List Node) (said : ℕ → Specified) (has : Declarator)
 ordinary_row nodes said has row None = refl
 ordinary_row nodes said has row (Some s) =
     keeps row (is_typedef (class_of (said s).storage)) TypeName (value_by nodes (class_of (said s).storage) has.function row) refl (value_row nodes (class_of (said s).storage) has.function row)
-
-constant_row : (row : ℕ) (e : Option Enumerated) → row_or row (constant_by e) ≡ row
-constant_row row None = refl
-constant_row row (Some own) = by own.value
-  where
-    by : (o : Option ℤ) → row_or row (elim o [ None ↦ Unclear | Some value ↦ Enumerator value ]) ≡ row
-    by None = refl
-    by (Some v) = refl
 
 declared_row : (k : Kind) (nodes : List Node) (said : ℕ → Specified) (has : Declarator) (row : ℕ) (e : Option Enumerated) (d : Option ℕ) → row_or row (declared_by k nodes said has row e d) ≡ row
 declared_row kind.Enumerator nodes said has row e d = constant_row row e
@@ -205,8 +182,8 @@ only_definition (Some kind.FunctionDefinition) e = refl
 only_definition o e = absurd (false≢true e)
 
 module _ (file : List ℕ) (t : Typed) (it : IsUnitOfFile file t) where
-  abbrev made_by : IsTypedBy file it.unit it.names it.checked.checked t
-  made_by = it.checked.by
+  open it use {made_by, typing, shapes}
+  open has_unit file t it use {nodes_are}
 
   abbrev known : Known
   known = known_in file it.unit it.checked.checked
@@ -216,15 +193,6 @@ module _ (file : List ℕ) (t : Typed) (it : IsUnitOfFile file t) where
 
   abbrev tokens : List Token
   tokens = it.unit.tokens.list.items
-
-  abbrev typing : Typing
-  typing = it.checked.checked.whole.typing
-
-  abbrev shapes : List Shape
-  shapes = it.checked.checked.table
-
-  nodes_are : it.unit.nodes ≡ t.nodes
-  nodes_are = sym made_by.elaborated.nodes_are
 
   -- ---- definitions of main
 
@@ -263,7 +231,7 @@ module _ (file : List ℕ) (t : Typed) (it : IsUnitOfFile file t) where
       of_node (Some m) at = of_part (slice_get m.parts 1) refl (ap (λ o. functions.is_spelled_main file tokens (declared_token it.unit.nodes (slice_get (scripts.parts_if o) 1))) (sym at) ∙ both.1)
         where
           defines : m.kind ≡ kind.FunctionDefinition
-          defines = some_same m.kind kind.FunctionDefinition (ap scripts.kind_if (sym at) ∙ only_definition (scripts.kind_at it.unit.nodes i) both.0)
+          defines = same_Some m.kind kind.FunctionDefinition (ap scripts.kind_if (sym at) ∙ only_definition (scripts.kind_at it.unit.nodes i) both.0)
 
           of_part : (o : Option ℕ) → slice_get m.parts 1 ≡ o → functions.is_spelled_main file tokens (declared_token it.unit.nodes o) ≡ true → IsNamedMain i
           of_part None e f = absurd (false≢true f)
@@ -330,13 +298,13 @@ module _ (file : List ℕ) (t : Typed) (it : IsUnitOfFile file t) where
   declarer : (i : ℕ) (x : IsNamedMain i) → IsDeclarer t.nodes x.token i x.declarator x.node
   declarer i x = record { at = x.at; external = ap is_external x.is; place = 0; first = λ e. refl; part = x.declarator; is = x.second; declares = inl refl; name = x.name }
 
-  module _ (shaped : IsShaped it.checked.by.tree) (sighted : AreSighted it.checked.by.tree) (k : ℕ) (there : slice_get t.items k ≡ Some t.main) where
+  module _ (k : ℕ) (there : slice_get t.items k ≡ Some t.main) where
     -- it is the one that was checked
     same : item.item ≡ t.main
     same =
         let x = checked_main.own in
         let y = own_main in
-        defined_once file t it shaped sighted x.token y.token item.item x.declarator t.main y.declarator item.place k x.node y.node (declarer item.item x) (declarer t.main y) x.is y.is
+        defined_once file t it x.token y.token item.item x.declarator t.main y.declarator item.place k x.node y.node (declarer item.item x) (declarer t.main y) x.is y.is
         (ap (λ is. slice_get is item.place) made_by.elaborated.items_are ∙ item.at) there (x.spells ∙ sym y.spells)
 
     abbrev q : ℕ
@@ -346,8 +314,8 @@ module _ (file : List ℕ) (t : Typed) (it : IsUnitOfFile file t) where
     same_declarator =
         let x = checked_main.own in
         let y = own_main in
-        let node : x.node ≡ y.node = some_same x.node y.node (sym x.at ∙ ap (slice_get t.nodes) same ∙ y.at) in
-        some_same x.declarator y.declarator (sym x.second ∙ ap (λ (n : Node). slice_get n.parts 1) node ∙ y.second)
+        let node : x.node ≡ y.node = same_Some x.node y.node (sym x.at ∙ ap (slice_get t.nodes) same ∙ y.at) in
+        same_Some x.declarator y.declarator (sym x.second ∙ ap (λ (n : Node). slice_get n.parts 1) node ∙ y.second)
 
     type : has_mains_type (meaning_by (type_at shapes) (slice_index_or typing.parameters q []) (slice_index_or typing.declared q Unclear)) ≡ true
     type = ap (λ d. has_mains_type (known.stands d)) (sym same_declarator) ∙ checked_main.type
@@ -356,16 +324,16 @@ module _ (file : List ℕ) (t : Typed) (it : IsUnitOfFile file t) where
     declares = declarer t.main own_main
 
     function : DeclaresFunction typing q
-    function = definition_declares file t it shaped own_main.token t.main q own_main.node declares own_main.is
+    function = definition_declares file t it own_main.token t.main q own_main.node declares own_main.is
 
     abbrev row : ℕ
     row = function.0
 
     row_is : row ≡ slice_index_or typing.named q 0
     row_is =
-        let o = owned file t it shaped own_main.token t.main q own_main.node declares in
+        let o = owned file t it own_main.token t.main q own_main.node declares in
         let at : slice_get made_by.tree.nodes.now q ≡ Some o.node = ap (λ ns. slice_get ns q) (made_by.is.whole.tree.nodes ∙ nodes_are) ∙ o.at in
-        let r = ruled made_by.tree it.checked.checked.texts shapes typing made_by.is.whole.typing (holds file t it shaped) q o.node at in
+        let r = ruled made_by.tree it.checked.checked.texts shapes typing made_by.is.whole.typing (holds file t it) q o.node at in
         sym (ap (row_or (slice_index_or typing.named q 0)) (sym r.declared ∙ function.1.1)) ∙ declared_row o.node.kind made_by.tree.nodes.now _ _ (slice_index_or typing.named q 0) _ _
 
     parts_are : (is_plain_int (type_at shapes row) ≡ true)
@@ -384,8 +352,8 @@ module _ (file : List ℕ) (t : Typed) (it : IsUnitOfFile file t) where
       gives = ap (λ d. is_plain_int (type_at shapes (slice_index_or typing.named d 0))) second_is ∙ ap (λ r. is_plain_int (type_at shapes r)) (sym row_is) ∙ parts_are.0;
       parameters =
           entered t limits (map (type_at shapes) (slice_index_or typing.parameters q [])) (slice_index_or t.parameters t.main []) (are_mains (type_at shapes) (slice_index_or typing.parameters q []) parts_are.1.1)
-          (own_types file t it shaped own_main.token t.main q own_main.node declares own_main.is);
+          (own_types file t it own_main.token t.main q own_main.node declares own_main.is);
     }
 
 pub declared_so : Laws.MainsAreDeclaredSo
-declared_so file t it limits shaped sighted k there = main file t it shaped sighted k there limits
+declared_so file t it limits k there = main file t it k there limits

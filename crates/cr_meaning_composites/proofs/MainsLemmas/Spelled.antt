@@ -3,6 +3,7 @@ use Rattle.std.proofs.Common.{◌≡◌, ℕ, zero, suc, ◌<◌, List, Option, 
 use Rattle.std.specs.Str.{bytes_eq}
 use Rattle.std.proofs.lemmas.Bool.{cases_lt, lt-ltb}
 use Rattle.std.proofs.lemmas.Slice.Eq.{bytes_eq-Decides}
+use Rattle.std.proofs.lemmas.Option.{same_Some}
 use Rattle.cr_tokens.specs.declared.token.Token.{Token}
 use Rattle.cr_scopes.specs.Looking.{or_else, or_given}
 use Rattle.cr_scopes.specs.Spelled.{spelling_of, first_spelled, name_of}
@@ -10,9 +11,6 @@ use Rattle.cr_scopes.specs.Spelled.{spelling_of, first_spelled, name_of}
 or_first : (o : Option ℕ) (t : ℕ) → or_else o (Some t) ≡ Some (or_given o t)
 or_first None t = refl
 or_first (Some x) t = refl
-
-some_same : (x y : ℕ) → Some x ≡ Some y → x ≡ y
-some_same x y e = cc e
 
 module _ (file : List ℕ) (tokens : List Token) where
   -- the first token that is spelled so, of all up to one that is
@@ -32,5 +30,5 @@ module _ (file : List ℕ) (tokens : List Token) where
       let one = first_there s t (length tokens) e low in
       let other = first_there s u (length tokens) refl less in
       ap (λ b. if b then or_given (first_spelled file tokens (spelling_of file tokens t) t) t else t) (lt-ltb t (length tokens) low)
-      ∙ ap (λ x. or_given (first_spelled file tokens x t) t) e ∙ some_same (or_given (first_spelled file tokens s t) t) (or_given (first_spelled file tokens s u) u) (sym one ∙ other)
+      ∙ ap (λ x. or_given (first_spelled file tokens x t) t) e ∙ same_Some (or_given (first_spelled file tokens s t) t) (or_given (first_spelled file tokens s u) u) (sym one ∙ other)
       ∙ sym (ap (λ b. if b then or_given (first_spelled file tokens s u) u else u) (lt-ltb u (length tokens) less))

@@ -3,7 +3,7 @@ use Rattle.std.proofs.Common.{◌≡◌, ℕ, suc, ◌+◌, ◌<◌, ◌==◌, �
 use Rattle.std.specs.Prelude.{fold}
 use Rattle.std.specs.Option.{is_some}
 use Rattle.std.proofs.lemmas.Bool.{cases_lt, false≢true, ne_eqb}
-use Rattle.std.proofs.lemmas.Option.{slice_get_within}
+use Rattle.std.proofs.lemmas.Option.{slice_get_within, same_Some}
 use Rattle.cr_syntax.specs.declared.node.Kind.{Kind}
 use Rattle.cr_syntax.specs.declared.node.Kind.TheVariants as kind
 use Rattle.cr_syntax.specs.declared.node.Node.{Node}
@@ -13,7 +13,6 @@ use Rattle.cr_syntax.specs.Words.{Lexeme}
 use Rattle.cr_syntax.specs.Trees.{Trees, node as tree_node}
 use Rattle.cr_syntax.specs.Kept.{row_in}
 use Rattle.cr_syntax.proofs.Arena.{row_at}
-use Rattle.cr_syntax_order.specs.Listed.{AreListed}
 use Rattle.cr_syntax_nodes.specs.Laid.{stands_for, IsLaid}
 use Rattle.cr_scopes_events.specs.declared.event.Role.TheVariants as role
 use Rattle.cr_scopes_events.specs.declared.naming.Storage.{Storage as Word}
@@ -28,24 +27,20 @@ use Rattle.cr_scopes.specs.Resolved.{past_of}
 use Rattle.cr_scopes.specs.Units.{unit_events}
 use Rattle.cr_scopes_visibility.specs.Alone.Alone.{stands_alone, IsAlone}
 use Rattle.cr_scopes_linkage.specs.Shared.Origins.{is_external, IsDeclarer}
-use Rattle.cr_check_types.specs.declared.shape.Shape.{Shape}
 use Rattle.cr_check_enclosing.specs.declared.context.Around.{Around}
 use Rattle.cr_check_enclosing.specs.declared.context.Place.{Place}
 use Rattle.cr_check_enclosing.specs.declared.context.Place.TheVariants as place
 use Rattle.cr_check_enclosing.specs.Above.{above_of}
-use Rattle.cr_check_enclosing.specs.Around.{outermost, inside, below}
+use Rattle.cr_check_enclosing.specs.Around.{outermost, below}
 use Rattle.cr_check_expressions.specs.declared.known.Declared.TheVariants.{Object, Function, TypeName, Unclear}
 use Rattle.cr_check_declarators.specs.declared.linkages.Linkage.{Linkage}
 use Rattle.cr_check_declarators.specs.declared.linkages.Linkage.TheVariants.{Alone, Internal, External}
-use Rattle.cr_check_declarators.specs.declared.declarator.Declarator.{Declarator}
-use Rattle.cr_check_declarators.specs.declared.enumerators.Enumerated.{Enumerated}
 use Rattle.cr_check_declarators.specs.declared.words.Class.{Class}
 use Rattle.cr_check_declarators.specs.declared.words.Class.TheVariants as class
 use Rattle.cr_check_declarators.specs.declared.words.Storage.{Storage}
 use Rattle.cr_check_declarators.specs.declared.words.Specified.{Specified}
 use Rattle.cr_check_declarators.specs.Linkages.{inherited, linkage_of}
 use Rattle.cr_check_declarators.specs.Specifiers.{nothing, is_typedef_word, specified_by, both_storages, may_stand, storage_by, storage_fault_of, inline_fault_of}
-use Rattle.cr_check_declarations.specs.declared.tree.Tree.{Tree}
 use Rattle.cr_check_declarations.specs.Before.{kind_if, parts_if, Before, specified_in}
 use Rattle.cr_check_declarations.specs.Specifiers.{declares_by, are_specifiers, joined_in}
 use Rattle.cr_check_declarations.specs.Named.{class_of, is_typedef, value_by, specifiers_in, declaration_of, declares_name, declared_by, ordinary_of, ordinary_by, names_ordinary}
@@ -54,31 +49,26 @@ use Rattle.cr_check_expressions.specs.Breaks.{fault}
 use Rattle.cr_check_initialised.specs.Durations.{is_kept, is_static}
 use Rattle.cr_check_linkage.specs.Linked.{linkage_in, linked_in, linkage_by}
 use Rattle.cr_check_signatures.specs.Functions.Linked.{has_linkage, does_at}
-use Rattle.cr_check_unit.specs.declared.typing.Typing.{Typing}
 use Rattle.cr_check_unit.specs.Typing.{cut, entry_at, before_in, past_in}
 use Rattle.cr_typed.specs.declared.typed.Typed.{Typed}
-use Rattle.cr_typed_unit.specs.Typed.{IsTypedBy}
 use Rattle.cr_meaning_typing.specs.Typed.Laws.{HoldsAll}
-use Rattle.cr_meaning_declarations.specs.Units.Owned.{AreOfUnit}
 use Rattle.cr_meaning_declarations.proofs.UnitsLemmas.Rows.{clear_laid, clear_at}
 use Rattle.cr_meaning_declarations.proofs.UnitsLemmas.Handing.{laid_at, parts_below}
 use Rattle.cr_meaning_declarations.proofs.NamesLemmas.Parents.{IsPartOf, no_item, above_some, whole_is}
 use Rattle.cr_meaning_declarations.proofs.NamesLemmas.Words.{word_of, Agrees, word_agrees, words_agree}
 use Rattle.cr_meaning_declarations.proofs.NamesLemmas.Walks as walks
-use Rattle.cr_meaning_declarations.proofs.NamesLemmas.Walks.{is_holder, without, no_external, sides_clear, AreNamedWell, all_alone, unit_good}
-use Rattle.cr_meaning_types.specs.Known.Shaped.{is_single, fits, IsPart, IsShaped}
+use Rattle.cr_meaning_declarations.proofs.NamesLemmas.Walks.{is_holder, without, no_external, sides_clear, AreNamedWell, all_alone, unit_good, only_external}
+use Rattle.cr_meaning_types.specs.Known.Shaped.{is_single, fits, IsPart}
 use Rattle.cr_meaning_types.proofs.KnownLemmas.Naming.{ruled, specified_early, holds_all}
 use Rattle.cr_meaning_types.proofs.KnownLemmas.Declaring.{unplaced}
 use Rattle.cr_meaning_declarations.specs.Declared.Files.{IsUnitOfFile}
-use Rattle.cr_meaning_declarations.proofs.DeclaredLemmas.Nodes.{of_unit}
 use Rattle.cr_meaning_declarations.proofs.LinkedLemmas.Owned.{HasOwn, own_there, alone as in_no_other, one_role}
-use Rattle.cr_meaning_declarations.proofs.LinkedLemmas.Order.{order_of}
-use Rattle.cr_meaning_composites.proofs.ChainedLemmas.Known.{HasWords, words, IsOwned, owned, nodes_are, is_typing, holds, there, external_is, definition_declares}
+use Rattle.cr_meaning_declarations.proofs.DeclaredLemmas.Files.{has_unit}
+use Rattle.cr_meaning_declarations.proofs.DeclaredLemmas.Once.{place_declaration, place_init, place_holder, no_plain}
+use Rattle.cr_meaning_composites.proofs.ChainedLemmas.Known.{HasWords, words, IsOwned, owned, nodes_are, is_typing, holds, there, external_is, definition_declares, single_plain, declares_by_kind}
 use Rattle.cr_meaning_composites.specs.Objects.Laws.{DeclaresObject, HasLinkage}
 use Rattle.cr_meaning_composites.proofs.ObjectsLemmas.Next.{no_function}
-
-some_same : {A : Type 0} (x y : A) → Some x ≡ Some y → x ≡ y
-some_same x y e = cc
+use Rattle.cr_meaning_references.proofs.TreesLemmas.Shaped.{shaped}
 
 -- ---- storage classes
 
@@ -154,45 +144,14 @@ by_place p (in_clause e) c visible h = by_block p (inr e) c visible h
 
 -- ---- kinds
 
-single_plain : (k : Kind) → is_single k ≡ true → are_specifiers k ≡ false
-single_plain kind.Specifiers h = absurd (false≢true h)
-single_plain kind.PlainSpecifiers h = absurd (false≢true h)
-single_plain k h = refl
-
 begins_declaration : (ts : List Lexeme) (k : Kind) (a b : ℕ) (v u : Trees) (i j : ℕ) → IsLaid ts (side_of kind.Declaration) (tree_node k a b v u) i j → stands_for part.Specifiers k ≡ true
 unfolding rule_of
 begins_declaration ts k a b v u i j l = l.0.0
-
-no_plain : (k : Kind) → stands_for part.Specifiers k ≡ true → k ≡ kind.PlainSpecifiers → ⊥
-unfolding rule_of
-no_plain k h e = false≢true (subst (λ (x : Kind). stands_for part.Specifiers x ≡ true) e h)
-
-only_external : (k : Kind) → is_external k ≡ true → (k ≡ kind.Declaration) ⊎ (k ≡ kind.FunctionDefinition)
-only_external kind.Declaration h = inl refl
-only_external kind.FunctionDefinition h = inr refl
-only_external k h = absurd (false≢true h)
 
 same_external : (k : Kind) → walks.is_external k ≡ true → is_external k ≡ true
 same_external kind.Declaration h = refl
 same_external kind.FunctionDefinition h = refl
 same_external k h = absurd (false≢true h)
-
-abbrev place_inside : Kind → ℕ → Around → Place
-place_inside k i a = (inside k i a).place
-
-place_declaration : (k : Kind) (i : ℕ) (a : Around) → k ≡ kind.Declaration → (inside k i a).place ≡ a.place
-unfolding inside
-place_declaration k i a e = ap (λ x. place_inside x i a) e
-
-place_init : (k : Kind) (i : ℕ) (a : Around) → k ≡ kind.InitDeclarator → (inside k i a).place ≡ a.place
-unfolding inside
-place_init k i a e = ap (λ x. place_inside x i a) e
-
-place_holder : (k : Kind) (i : ℕ) (a : Around) → is_holder k ≡ true → ((inside k i a).place ≡ place.Block) ⊎ ((inside k i a).place ≡ place.Clause)
-unfolding inside
-place_holder kind.Compound i a h = inl refl
-place_holder kind.For i a h = inr refl
-place_holder k i a h = absurd (false≢true h)
 
 -- what declares an object says no `typedef`, and is no function
 pub value_made : (c : Bool) (nodes : List Node) (of : Option Class) (f : Option ℕ) (row x : ℕ) (register : Bool) → (if c then TypeName else value_by nodes of f row) ≡ Object x register → (c ≡ false) × (f ≡ None)
@@ -200,36 +159,14 @@ value_made true nodes of f row x register e = absurd cc
 value_made false nodes of None row x register e = (refl, refl)
 value_made false nodes of (Some f) row x register e = absurd cc
 
-pub declares_by_kind : (k : Kind) (nodes : List Node) (said : ℕ → Specified) (own : Declarator) (row : ℕ) (e : Option Enumerated) (d : Option ℕ) → declares_name k ≡ true → declared_by k nodes said own row e d ≡ ordinary_of nodes said own row d
-declares_by_kind kind.Enumerator nodes said own row e d h = absurd (false≢true h)
-declares_by_kind k nodes said own row e d h = ap (λ b. if b then ordinary_of nodes said own row d else Unclear) h
-
 object_role : (next : Derivation) → ((f : ℕ) → next ≡ Derived f → ⊥) → role_by NoWord next ≡ role.Object
 object_role Nothing f = refl
 object_role (Derived x) f = absurd (f x refl)
 object_role Other f = refl
 
-module _ (file : List ℕ) (t : Typed) (it : IsUnitOfFile file t) (shaped : IsShaped it.checked.by.tree) where
-  unit : AreOfUnit t
-  unit = of_unit file t it
-
-  abbrev made_by : IsTypedBy file it.unit it.names it.checked.checked t
-  made_by = it.checked.by
-
-  abbrev typing : Typing
-  typing = it.checked.checked.whole.typing
-
-  abbrev shapes : List Shape
-  shapes = it.checked.checked.table
-
-  abbrev tree : Tree
-  tree = made_by.tree
-
-  order : AreListed t.nodes 0 t.items (length t.nodes)
-  order = order_of file t it
-
-  same_nodes : it.unit.nodes ≡ t.nodes
-  same_nodes = sym made_by.elaborated.nodes_are
+module _ (file : List ℕ) (t : Typed) (it : IsUnitOfFile file t) where
+  open it use {made_by, typing, shapes, tree}
+  open has_unit file t it use {unit, order, nodes_are as same_nodes}
 
   abbrev said : ℕ → Specified
   said p = (entry_at typing p).own.specified
@@ -238,11 +175,11 @@ module _ (file : List ℕ) (t : Typed) (it : IsUnitOfFile file t) (shaped : IsSh
 
   module _ (i : ℕ) (m : Node) (at : slice_get t.nodes i ≡ Some m) (external : is_external m.kind ≡ true) (p : ℕ) (n : Node) (here : slice_get t.nodes p ≡ Some n) (names : declares_name n.kind ≡ true)
       (of : declaration_of tree.nodes.now tree.above.now p ≡ Some i) where
-    abbrev pub words_at : HasWords file t it shaped i m
-    words_at = words file t it shaped i m at external
+    abbrev pub words_at : HasWords file t it i m
+    words_at = words file t it i m at external
 
     pub specifiers_at : specifiers_in tree.nodes.now (Some i) ≡ Some words_at.specifiers
-    specifiers_at = ap (λ x. slice_get (parts_if x) 0) (there file t it shaped i m at) ∙ words_at.first
+    specifiers_at = ap (λ x. slice_get (parts_if x) 0) (there file t it i m at) ∙ words_at.first
 
     pub declared_is : slice_index_or typing.declared p Unclear
         ≡ (if is_typedef (class_of (said words_at.specifiers).storage) then TypeName
@@ -251,15 +188,15 @@ module _ (file : List ℕ) (t : Typed) (it : IsUnitOfFile file t) (shaped : IsSh
         let early = (before_in shapes (cut p typing)).specified in
         let row = (entry_at typing p).own.named in
         let own = (entry_at typing p).own.declarator in
-        let low : words_at.specifiers < p = shaped.ordered p i words_at.specifiers n (there file t it shaped p n here) names of specifiers_at in
-        (ruled tree it.checked.checked.texts shapes typing (is_typing file t it shaped) (holds file t it shaped) p n (there file t it shaped p n here)).declared
+        let low : words_at.specifiers < p = (shaped file t it).ordered p i words_at.specifiers n (there file t it p n here) names of specifiers_at in
+        (ruled tree it.checked.checked.texts shapes typing (is_typing file t it) (holds file t it) p n (there file t it p n here)).declared
         ∙ declares_by_kind n.kind tree.nodes.now early own row (entry_at typing p).own.enumerated (declaration_of tree.nodes.now tree.above.now p) names
         ∙ ap (ordinary_of tree.nodes.now early own row) of
         ∙ ap (λ b. if b then ordinary_by tree.nodes.now early own row (specifiers_in tree.nodes.now (Some i)) else Unclear)
-        (ap (λ x. names_ordinary (kind_if x)) (there file t it shaped i m at) ∙ (external_is m.kind external).1.1)
+        (ap (λ x. names_ordinary (kind_if x)) (there file t it i m at) ∙ (external_is m.kind external).1.1)
         ∙ ap (ordinary_by tree.nodes.now early own row) specifiers_at
         ∙ ap (λ (x : Specified). if is_typedef (class_of x.storage) then TypeName else value_by tree.nodes.now (class_of x.storage) own.function row)
-        (specified_early tree it.checked.checked.texts shapes typing (is_typing file t it shaped) (holds file t it shaped) p n (there file t it shaped p n here) words_at.specifiers low)
+        (specified_early tree it.checked.checked.texts shapes typing (is_typing file t it) (holds file t it) p n (there file t it p n here) words_at.specifiers low)
 
   -- ---- places
 
@@ -284,7 +221,7 @@ module _ (file : List ℕ) (t : Typed) (it : IsUnitOfFile file t) (shaped : IsSh
           let row = clear_laid walks.is_external (without kind.Declaration kind.FunctionDefinition) no_external unit.tokens (side_of h.parent.kind) (row_in t.nodes h.parent.parts) h.parent.first (h.parent.last + 1)
           (sides_clear h.parent.kind q) (laid_at t unit a h.parent h.at) in
           let one = clear_at walks.is_external (without kind.Declaration kind.FunctionDefinition) no_external t.nodes unit.below h.parent.parts (parts_below t unit a h.parent h.at) row h.place i h.is in
-          let same : one.0 ≡ m = some_same one.0 m (sym one.1.0 ∙ at) in
+          let same : one.0 ≡ m = same_Some one.0 m (sym one.1.0 ∙ at) in
           sym one.1.1 ∙ ap (λ (x : Node). walks.is_external x.kind) same ∙ external
 
   where_it_stands : (i : ℕ) (m : Node) → slice_get t.nodes i ≡ Some m → m.kind ≡ kind.Declaration → Stands (place_of tree i)
@@ -294,14 +231,14 @@ module _ (file : List ℕ) (t : Typed) (it : IsUnitOfFile file t) (shaped : IsSh
       by None q = in_file (file_place i (slice_get_within t.nodes i m at) q)
       by (Some a) q =
           let h = above_some t unit (length t.nodes) i a q in
-          let has = shaped.parts a h.parent (there file t it shaped a h.parent h.at) h.place i h.is in
+          let has = (shaped file t it).parts a h.parent (there file t it a h.parent h.at) h.place i h.is in
           let e = ap (λ (x : Around). x.place) has.around in
           elim (place_holder h.parent.kind a (around a) (holder i a m h at (ap walks.is_external is))) [ inl x ↦ in_block (e ∙ x) | inr x ↦ in_clause (e ∙ x) ]
 
   -- its declarators stand there too
   module _ (token i q : ℕ) (m : Node) (d : IsDeclarer t.nodes token i q m) (is : m.kind ≡ kind.Declaration) where
     part_is : IsPart tree i m (suc d.place) d.part
-    part_is = shaped.parts i m (there file t it shaped i m d.at) (suc d.place) d.part d.is
+    part_is = (shaped file t it).parts i m (there file t it i m d.at) (suc d.place) d.part d.is
 
     part_place : place_of tree d.part ≡ place_of tree i
     part_place = ap (λ (x : Around). x.place) part_is.around ∙ place_declaration m.kind i (around i) is
@@ -310,11 +247,11 @@ module _ (file : List ℕ) (t : Typed) (it : IsUnitOfFile file t) (shaped : IsSh
     place_is = elim d.declares [
       | inl same ↦ ap (place_of tree) (sym same) ∙ part_place
       | inr init ↦
-          (let at : slice_get t.nodes d.part ≡ Some part_is.own = ap (λ ns. slice_get ns d.part) (nodes_are file t it shaped) ∙ part_is.at in
+          (let at : slice_get t.nodes d.part ≡ Some part_is.own = ap (λ ns. slice_get ns d.part) (nodes_are file t it) ∙ part_is.at in
           let kind_is : Some part_is.own.kind ≡ Some kind.InitDeclarator = ap scripts.kind_if (sym at) ∙ init.0 in
           let init_is : part_is.own.kind ≡ kind.InitDeclarator = cc in
           let first : slice_get part_is.own.parts 0 ≡ Some q = ap (λ o. slice_get (scripts.parts_if o) 0) (sym at) ∙ init.1 in
-          let inner = shaped.parts d.part part_is.own part_is.at 0 q first in
+          let inner = (shaped file t it).parts d.part part_is.own part_is.at 0 q first in
           ap (λ (x : Around). x.place) inner.around ∙ place_init part_is.own.kind d.part (around d.part) init_is ∙ part_place)
     ]
 
@@ -324,7 +261,7 @@ module _ (file : List ℕ) (t : Typed) (it : IsUnitOfFile file t) (shaped : IsSh
       → Agrees (with_word w (scripts.kind_at t.nodes p)) (both_storages st (early p).storage)
   word_said early p m at single same w st h =
       let own : said p ≡ specified_by m.kind m.first (declares_by m.kind (slice_index_or tree.tags.now p None)) =
-      (ruled tree it.checked.checked.texts shapes typing (is_typing file t it shaped) (holds file t it shaped) p m (there file t it shaped p m at)).specified
+      (ruled tree it.checked.checked.texts shapes typing (is_typing file t it) (holds file t it) p m (there file t it p m at)).specified
       ∙ ap (λ b. if b then joined_in (before_in shapes (cut p typing)).specified m.parts else specified_by m.kind m.first (declares_by m.kind (slice_index_or tree.tags.now p None))) single in
       let made = word_agrees w st m.kind m.first (declares_by m.kind (slice_index_or tree.tags.now p None)) h in
       let moved = subst (λ (x : Specified). Agrees (with_word w (Some m.kind)) (both_storages st x.storage)) (sym (same ∙ own)) made in
@@ -343,14 +280,14 @@ module _ (file : List ℕ) (t : Typed) (it : IsUnitOfFile file t) (shaped : IsSh
       several : m.kind ≡ kind.Specifiers → HasSaid (Some kind.Specifiers)
       several is =
           let own : said s ≡ joined_in early m.parts =
-          (ruled tree it.checked.checked.texts shapes typing (is_typing file t it shaped) (holds file t it shaped) s m (there file t it shaped s m at)).specified
+          (ruled tree it.checked.checked.texts shapes typing (is_typing file t it) (holds file t it) s m (there file t it s m at)).specified
           ∙ ap (λ b. if b then joined_in early m.parts else specified_by m.kind m.first (declares_by m.kind (slice_index_or tree.tags.now s None))) (ap are_specifiers is) in
           let all = words_agree (scripts.kind_at t.nodes) early m.parts NoWord nothing
           (λ k p e w st h.
-          let x = shaped.parts s m (there file t it shaped s m at) k p e in
+          let x = (shaped file t it).parts s m (there file t it s m at) k p e in
           let alone : is_single x.own.kind ≡ true = ap (λ y. fits y k x.own.kind) (sym is) ∙ x.fits in
-          word_said early p x.own (ap (λ ns. slice_get ns p) (nodes_are file t it shaped) ∙ x.at) (single_plain x.own.kind alone)
-          (specified_early tree it.checked.checked.texts shapes typing (is_typing file t it shaped) (holds file t it shaped) s m (there file t it shaped s m at) p x.below) w st h) refl in
+          word_said early p x.own (ap (λ ns. slice_get ns p) (nodes_are file t it) ∙ x.at) (single_plain x.own.kind alone)
+          (specified_early tree it.checked.checked.texts shapes typing (is_typing file t it) (holds file t it) s m (there file t it s m at) p x.below) w st h) refl in
           subst (λ ws. Agrees (fold (λ storage word. with_word storage (scripts.kind_at t.nodes word)) NoWord ws) (said s).storage) (sym (ap scripts.parts_if at))
           (subst (λ (x : Specified). Agrees (fold (λ storage word. with_word storage (scripts.kind_at t.nodes word)) NoWord m.parts) x.storage) (sym own) all)
 
@@ -365,11 +302,11 @@ module _ (file : List ℕ) (t : Typed) (it : IsUnitOfFile file t) (shaped : IsSh
   -- ---- an object of a declaration
 
   module _ (token i q : ℕ) (m : Node) (d : IsDeclarer t.nodes token i q m) (object : DeclaresObject typing q) where
-    o : IsOwned file t it shaped token i q m
-    o = owned file t it shaped token i q m d
+    o : IsOwned file t it token i q m
+    o = owned file t it token i q m d
 
-    abbrev pub w : HasWords file t it shaped i m
-    w = words file t it shaped i m d.at d.external
+    abbrev pub w : HasWords file t it i m
+    w = words file t it i m d.at d.external
 
     abbrev pub own_class : Option Class
     own_class = class_of (said w.specifiers).storage
@@ -389,7 +326,7 @@ module _ (file : List ℕ) (t : Typed) (it : IsUnitOfFile file t) (shaped : IsSh
     declaration_is = elim (only_external m.kind d.external) [
       | inl e ↦ e
       | inr e ↦
-          (let f = definition_declares file t it shaped token i q m d e in
+          (let f = definition_declares file t it token i q m d e in
           let never : Function f.0 f.1.0 ≡ Object object.0 object.1.0 = sym f.1.1 ∙ object.1.1 in
           absurd cc)
     ]
@@ -398,15 +335,15 @@ module _ (file : List ℕ) (t : Typed) (it : IsUnitOfFile file t) (shaped : IsSh
     stands_there = subst Stands (sym (place_is token i q m d declaration_is)) (where_it_stands i m d.at declaration_is)
 
     specifiers_are : specifiers_in tree.nodes.now (Some i) ≡ Some w.specifiers
-    specifiers_are = ap (λ x. slice_get (parts_if x) 0) (there file t it shaped i m d.at) ∙ w.first
+    specifiers_are = ap (λ x. slice_get (parts_if x) 0) (there file t it i m d.at) ∙ w.first
 
     below_it : w.specifiers < q
-    below_it = shaped.ordered q i w.specifiers o.node (there file t it shaped q o.node o.at) o.names o.declaration specifiers_are
+    below_it = (shaped file t it).ordered q i w.specifiers o.node (there file t it q o.node o.at) o.names o.declaration specifiers_are
 
     early_is : specified_in (before_in shapes (cut q typing)).specified (specifiers_in tree.nodes.now (Some i)) ≡ said w.specifiers
     early_is =
         ap (specified_in (before_in shapes (cut q typing)).specified) specifiers_are
-        ∙ specified_early tree it.checked.checked.texts shapes typing (is_typing file t it shaped) (holds file t it shaped) q o.node (there file t it shaped q o.node o.at) w.specifiers below_it
+        ∙ specified_early tree it.checked.checked.texts shapes typing (is_typing file t it) (holds file t it) q o.node (there file t it q o.node o.at) w.specifiers below_it
 
     abbrev visible : Option Linkage
     visible = linkage_in (linked_in (past_in shapes (cut q typing)).linked (slice_index_or tree.earlier.now q None))
@@ -426,21 +363,21 @@ module _ (file : List ℕ) (t : Typed) (it : IsUnitOfFile file t) (shaped : IsSh
 
     module _ (inner : IsInner (place_of tree q) own_class) where
       here : slice_get tree.nodes.now i ≡ Some m
-      here = there file t it shaped i m d.at
+      here = there file t it i m d.at
 
       first_is : IsPart tree i m 0 w.specifiers
-      first_is = shaped.parts i m here 0 w.specifiers w.first
+      first_is = (shaped file t it).parts i m here 0 w.specifiers w.first
 
       agrees : Agrees (storage_of t.nodes m.parts) (said w.specifiers).storage
       agrees = by m.parts refl
         where
           first_at : slice_get t.nodes w.specifiers ≡ Some first_is.own
-          first_at = ap (λ ns. slice_get ns w.specifiers) (nodes_are file t it shaped) ∙ first_is.at
+          first_at = ap (λ ns. slice_get ns w.specifiers) (nodes_are file t it) ∙ first_is.at
 
           by : (ps : List ℕ) → m.parts ≡ ps → Agrees (storage_of t.nodes m.parts) (said w.specifiers).storage
           by [] e = let never : None ≡ Some w.specifiers = sym (ap (λ l. slice_get l 0) e) ∙ w.first in absurd cc
           by (s ∷ rest) e =
-              let same : s ≡ w.specifiers = some_same s w.specifiers (sym (ap (λ l. slice_get l 0) e) ∙ w.first) in
+              let same : s ≡ w.specifiers = same_Some s w.specifiers (sym (ap (λ l. slice_get l 0) e) ∙ w.first) in
               let parts : m.parts ≡ w.specifiers ∷ rest = e ∙ ap (λ x. x ∷ rest) same in
               let row = ap (row_in t.nodes) parts ∙ row_at t.nodes unit.below w.specifiers first_is.own rest first_at in
               let laid = subst (λ u. IsLaid unit.tokens (side_of m.kind) u m.first (m.last + 1)) row (laid_at t unit i m d.at) in
@@ -461,11 +398,11 @@ module _ (file : List ℕ) (t : Typed) (it : IsUnitOfFile file t) (shaped : IsSh
       none : is_some (storage_by (place_of tree i) functions (said w.specifiers).storage) ≡ false
       none =
           ap (λ (x : Specified). is_some (storage_by (place_of tree i) functions x.storage))
-          (sym (ap (specified_in early.specified) w.first ∙ specified_early tree it.checked.checked.texts shapes typing (is_typing file t it shaped) (holds file t it shaped) i m here w.specifiers first_is.below))
+          (sym (ap (specified_in early.specified) w.first ∙ specified_early tree it.checked.checked.texts shapes typing (is_typing file t it) (holds file t it) i m here w.specifiers first_is.below))
           ∙ unplaced 2 (storage_fault_of early_said (place_of tree i) functions)
           (fault 3 m.first (is_nothing (drop 1 m.parts) && not early_said.declares) ∷ fault_at 4 (inline_fault_of early_said (place_of tree i) (declares_functions early.declarator early_said (drop 1 m.parts))) ∷ [])
           (subst (λ k. HoldsAll (faults_in k (has_at shapes (entry_at typing i).own) early tree i m)) declaration_is
-          (holds_all tree it.checked.checked.texts shapes typing (is_typing file t it shaped) (holds file t it shaped) i m here))
+          (holds_all tree it.checked.checked.texts shapes typing (is_typing file t it) (holds file t it) i m here))
 
       word_is : storage_of t.nodes m.parts ≡ NoWord
       word_is = no_word (storage_of t.nodes m.parts) (said w.specifiers).storage (place_of tree i) functions agrees none untyped inner.1
@@ -474,8 +411,8 @@ module _ (file : List ℕ) (t : Typed) (it : IsUnitOfFile file t) (shaped : IsSh
       role_is =
           ap (λ s. role_by s (declarator_of t.nodes q).next) word_is
           ∙ object_role (declarator_of t.nodes q).next
-          (λ f e. no_function tree it.checked.checked.texts shapes typing (is_typing file t it shaped) (holds file t it shaped) shaped q token f
-          (ap (λ ns. (declarator_of ns q).name) (sym (nodes_are file t it shaped)) ∙ d.name) made (ap (λ ns. (declarator_of ns q).next) (sym (nodes_are file t it shaped)) ∙ e))
+          (λ f e. no_function tree it.checked.checked.texts shapes typing (is_typing file t it) (holds file t it) (shaped file t it) q token f
+          (ap (λ ns. (declarator_of ns q).name) (sym (nodes_are file t it)) ∙ d.name) made (ap (λ ns. (declarator_of ns q).next) (sym (nodes_are file t it)) ∙ e))
 
       abbrev IsItem : ℕ → Type 0
       IsItem p = (k : ℕ) × (slice_get t.items k ≡ Some p)
@@ -497,7 +434,7 @@ module _ (file : List ℕ) (t : Typed) (it : IsUnitOfFile file t) (shaped : IsSh
 
       -- another declaration of the token is the same one
       same_place : (j r : ℕ) (n : Node) → IsDeclarer t.nodes token j r n → j ≡ i
-      same_place j r n e = some_same j i (sym (owned file t it shaped token j r n e).declaration ∙ ap (declaration_of tree.nodes.now tree.above.now) same ∙ o.declaration)
+      same_place j r n e = same_Some j i (sym (owned file t it token j r n e).declaration ∙ ap (declaration_of tree.nodes.now tree.above.now) same ∙ o.declaration)
         where
           mine : (declarator_of t.nodes q).name ≡ Some x.node.first
           mine = d.name ∙ ap Some (sym x.first)

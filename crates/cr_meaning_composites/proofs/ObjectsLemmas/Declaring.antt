@@ -3,6 +3,7 @@ use Rattle.std.proofs.Common.{◌≡◌, ℕ, zero, suc, ◌<◌, ◌≤◌, ◌
 use Rattle.std.specs.List.{list_any}
 use Rattle.std.proofs.lemmas.Bool.{cases_lt, false≢true, eq-eqb, eqb-true, or_left, or_right, ltb-true}
 use Rattle.std.proofs.lemmas.List.{get_or_past}
+use Rattle.std.proofs.lemmas.Option.{same_Some}
 use Rattle.cr_scopes_bindings.specs.Last.{last_with}
 use Rattle.cr_scopes_events.specs.declared.event.Role.{Role}
 use Rattle.cr_scopes_events.specs.declared.event.Role.TheVariants as role
@@ -17,9 +18,10 @@ use Rattle.cr_scopes.specs.declared.told.Told.{Told}
 use Rattle.cr_scopes.specs.Looking.{look}
 use Rattle.cr_scopes.specs.Resolved.{space_of, declares_by, told_if, told_of, told, number_of, with_token, is_number, entity_of, with_event, past_of, told_below, AreResolved}
 use Rattle.cr_scopes_bindings.specs.Entities.{entity_within, entity_at, is_declared_by, declares, declared_entity, first_in, first_if, first_of}
-use Rattle.cr_scopes_visibility.proofs.AloneLemmas.First.{number_is, some_same, told_there, within_is}
+use Rattle.cr_scopes_visibility.proofs.AloneLemmas.First.{number_is, told_there, within_is, number_same as number_is_it}
 use Rattle.cr_scopes_linkage.specs.Shared.Sorts.{Never}
 use Rattle.cr_scopes_typedef_names.specs.Tellings.Tellings.{AllNames}
+use Rattle.cr_meaning_declarations.proofs.LastingLemmas.Begun.{any_first}
 
 -- ---- lists
 
@@ -41,12 +43,8 @@ any_at t (x ∷ es) zero e at h = let same : x ≡ e = cc in or_left (is_declare
 any_at t (x ∷ es) (suc k) e at h = or_right (is_declared_by t x) (list_any (is_declared_by t) es) (any_at t es k e at h)
 
 first_more : (xs : List ℕ) (m f : ℕ) → first_in (xs ++ m ∷ []) ≡ Some f → (first_in xs ≡ Some f) ⊎ ((xs ≡ []) × (m ≡ f))
-first_more [] m f e = inr (refl, some_same m f e)
+first_more [] m f e = inr (refl, same_Some m f e)
 first_more (x ∷ xs) m f e = inl e
-
-any_first : (token : ℕ) (xs : List ℕ) → first_in xs ≡ Some token → list_any (λ d. d == token) xs ≡ true
-any_first token [] e = absurd cc
-any_first token (x ∷ xs) e = or_left (x == token) (list_any (λ d. d == token) xs) (eq-eqb x token (some_same x token e))
 
 -- ---- the tokens of an entity
 
@@ -195,10 +193,6 @@ pub record IsLast (key : ℕ → Option ℕ) (b k q : ℕ) : Type 0 where
   pub behind : q ≤ last
   pub low : last < b
 
-number_is_it : (o : Option ℕ) (k : ℕ) → is_number o k ≡ true → o ≡ Some k
-number_is_it None k h = absurd (false≢true h)
-number_is_it (Some j) k h = ap Some (eqb-true j k h)
-
 pub last_there : (key : ℕ → Option ℕ) (b k q : ℕ) → q < b → key q ≡ Some k → IsLast key b k q
 last_there key zero k q less h = absurd (omega (arith, less))
 last_there key (suc b) k q less h = by (is_number (key b) k) refl (λ x. last_there key b k q x h)
@@ -215,7 +209,7 @@ last_there key (suc b) k q less h = by (is_number (key b) k) refl (λ x. last_th
           absurd (false≢true (sym e ∙ ap (λ y. is_number (key y) k) same ∙ ap (λ o. is_number o k) h ∙ eq-eqb k k refl)))
     ]
 
-entity_if_declared : (b : Bool) (o : Option ℕ) (k : ℕ) → (if b then o else None) ≡ Some k → o ≡ Some k
+pub entity_if_declared : (b : Bool) (o : Option ℕ) (k : ℕ) → (if b then o else None) ≡ Some k → o ≡ Some k
 entity_if_declared true o k e = e
 entity_if_declared false o k e = absurd cc
 

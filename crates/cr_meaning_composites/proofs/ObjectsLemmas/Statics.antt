@@ -1,7 +1,7 @@
 -- What has static duration has it by the first declaration of its entity (C11 6.2.4p3).
 use Rattle.std.proofs.Common.{◌≡◌, ℕ, ℤ, zero, suc, ◌+◌, ◌<◌, ◌≤◌, Bool, true, false, List, [], ◌∷◌, Option, None, Some, length, nat_lt, slice_get, slice_index_or, ◌⊎◌, inl, inr, refl, sym, subst, ap, ◌∙◌, arith, if◌then◌else◌}
-use Rattle.std.proofs.lemmas.Bool.{cases_lt, false≢true, eqb-true, ltb-true}
-use Rattle.std.proofs.lemmas.Option.{slice_get_within}
+use Rattle.std.proofs.lemmas.Bool.{cases_lt, false≢true, ltb-true}
+use Rattle.std.proofs.lemmas.Option.{slice_get_within, same_Some}
 use Rattle.cr_syntax.specs.declared.node.Kind.{Kind}
 use Rattle.cr_syntax.specs.declared.node.Kind.TheVariants as kind
 use Rattle.cr_syntax.specs.declared.node.Node.{Node}
@@ -11,7 +11,6 @@ use Rattle.cr_syntax.specs.Kept.{AreBelow, row_in}
 use Rattle.cr_syntax.specs.Grammar.{Side, part as needed}
 use Rattle.cr_syntax.proofs.Arena.{below_first, below_rest, row_at}
 use Rattle.cr_syntax_nodes.specs.Laid.{stands_for, IsLaid}
-use Rattle.cr_syntax_order.specs.Listed.{AreListed}
 use Rattle.cr_syntax_nodes.proofs.Numbers.{some_at}
 use Rattle.cr_scopes_events.specs.declared.event.Role.{Role}
 use Rattle.cr_scopes_events.specs.declared.naming.Storage.{Storage as Word}
@@ -35,7 +34,6 @@ use Rattle.cr_scopes_linkage.specs.Shared.Sorts.{Never}
 use Rattle.cr_scopes_linkage.specs.Shared.Origins.{is_external, IsDeclarer}
 use Rattle.cr_scopes_typedef_names.specs.Tellings.Tellings.{is_use, is_tagged, Telling, by_declaration, by_parameter, by_enumerator, by_tag, by_use}
 use Rattle.cr_scopes_typedef_names.proofs.TellingsLemmas.Scripts.{all_told}
-use Rattle.cr_check_types.specs.declared.shape.Shape.{Shape}
 use Rattle.cr_check_enclosing.specs.declared.context.Around.{Around}
 use Rattle.cr_check_enclosing.specs.declared.context.Place.{Place}
 use Rattle.cr_check_enclosing.specs.declared.context.Place.TheVariants as place
@@ -47,52 +45,42 @@ use Rattle.cr_check_declarators.specs.declared.words.Class.{Class}
 use Rattle.cr_check_declarators.specs.declared.words.Specified.{Specified}
 use Rattle.cr_check_declarators.specs.declared.declarator.Declarator.{Declarator}
 use Rattle.cr_check_declarators.specs.declared.enumerators.Enumerated.{Enumerated}
-use Rattle.cr_check_declarations.specs.declared.tree.Tree.{Tree}
 use Rattle.cr_check_declarations.specs.Before.{kind_in, kind_if as kind_of_node, specified_in}
 use Rattle.cr_check_declarations.specs.Named.{is_declarator, is_declaration, is_initialised, above_in, declaration_at, declaration_of, specifiers_in, class_of, names_ordinary, ordinary_of, declares_name, constant_by, declared_by}
 use Rattle.cr_check_declarations.specs.Faults.{is_specifier, place_of}
 use Rattle.cr_check_initialised.specs.Durations.{is_kept, is_static}
-use Rattle.cr_check_unit.specs.declared.typing.Typing.{Typing}
 use Rattle.cr_check_unit.specs.Typing.{cut, entry_at, before_in}
 use Rattle.cr_typed.specs.declared.typed.Typed.{Typed}
 use Rattle.cr_typed.specs.declared.typed.Duration.TheVariants as duration
-use Rattle.cr_typed_columns.specs.declared.checked.CheckedColumns.{CheckedColumns}
 use Rattle.cr_typed_columns.specs.Reading.{parsed_of, entry_of}
 use Rattle.cr_typed_columns.specs.Entities as entities
 use Rattle.cr_typed_columns.specs.Names as names
-use Rattle.cr_typed_unit.specs.Typed.{IsTypedBy}
 use Rattle.cr_meaning_operations.specs.Operations.{entity_if, entity_of, is_static_by}
 use Rattle.cr_meaning_operations.specs.Operations as operations
-use Rattle.cr_meaning_declarations.specs.Units.Owned.{AreOfUnit}
 use Rattle.cr_meaning_declarations.proofs.UnitsLemmas.Handing.{laid_at, parts_below}
 use Rattle.cr_meaning_declarations.proofs.NamesLemmas.Leaves as leaves
 use Rattle.cr_meaning_declarations.proofs.NamesLemmas.Leaves.{is_named, named_once}
 use Rattle.cr_meaning_declarations.proofs.NamesLemmas.Parents.{IsPartOf, above_some, whole_is}
-use Rattle.cr_meaning_types.specs.Known.Shaped.{fits, IsPart, IsShaped}
-use Rattle.cr_meaning_types.specs.Known.Sighted.{AreSighted}
+use Rattle.cr_meaning_types.specs.Known.Shaped.{fits, IsPart}
 use Rattle.cr_meaning_types.proofs.KnownLemmas.Naming.{ruled}
 use Rattle.cr_meaning_declarations.specs.Declared.Files.{IsUnitOfFile}
-use Rattle.cr_meaning_declarations.proofs.DeclaredLemmas.Nodes.{of_unit}
 use Rattle.cr_meaning_declarations.proofs.DeclaredLemmas.Bodies.{listed_at, last_has, name_there, IsThere, node_of}
 use Rattle.cr_meaning_declarations.proofs.LastingLemmas.Begun.{begun_own}
 use Rattle.cr_meaning_declarations.proofs.LastingLemmas.Firsts.{static_named}
 use Rattle.cr_meaning_declarations.specs.Linked.Laws.{DeclaresValue}
 use Rattle.cr_meaning_declarations.proofs.LinkedLemmas.Owned.{own_there, alone as in_no_other}
-use Rattle.cr_meaning_declarations.proofs.LinkedLemmas.Order.{there as node_there, order_of}
+use Rattle.cr_meaning_declarations.proofs.LinkedLemmas.Order.{there as node_there}
 use Rattle.cr_meaning_declarations.proofs.LinkedLemmas.Sorts.{values_share}
+use Rattle.cr_meaning_declarations.proofs.DeclaredLemmas.Files.{has_unit}
+use Rattle.cr_meaning_declarations.proofs.DeclaredLemmas.Once.{place_init}
 use Rattle.cr_meaning_composites.proofs.ChainedLemmas.Known.{is_typing, holds, there, is_named_declarator}
 use Rattle.cr_meaning_composites.specs.Objects.Laws
-use Rattle.cr_meaning_composites.specs.Objects.Laws.{DeclaresObject, HasLinkage}
+use Rattle.cr_meaning_composites.specs.Objects.Laws.{DeclaresObject}
 use Rattle.cr_meaning_composites.proofs.ObjectsLemmas.Declaring.{is_silent, never_told, last_there, few_of, declares_entity, first_declares, first_least}
 use Rattle.cr_meaning_composites.proofs.ObjectsLemmas.Alone.{Stands, in_file, in_block, in_clause, stands_there}
 use Rattle.cr_meaning_composites.proofs.ObjectsLemmas.Objects.{shared, value_there, follows_at}
-
-some_same : {A : Type 0} (x y : A) → Some x ≡ Some y → x ≡ y
-some_same x y e = cc
-
-number_is : (o : Option ℕ) (k : ℕ) → is_number o k ≡ true → o ≡ Some k
-number_is None k h = absurd (false≢true h)
-number_is (Some j) k h = ap Some (eqb-true j k h)
+use Rattle.cr_meaning_references.proofs.TreesLemmas.Shaped.{shaped}
+use Rattle.cr_scopes_visibility.proofs.AloneLemmas.First.{number_same as number_is}
 
 -- ---- durations (6.2.4)
 
@@ -175,7 +163,7 @@ no_initialiser kind.AbstractArray h g = false≢true g
 no_initialiser kind.AbstractArrayOf h g = false≢true g
 no_initialiser k h g = false≢true h
 
-last_below : (key : ℕ → Option ℕ) (b k i : ℕ) → last_with key b k ≡ Some i → i < b
+pub last_below : (key : ℕ → Option ℕ) (b k i : ℕ) → last_with key b k ≡ Some i → i < b
 last_below key zero k i e = absurd cc
 last_below key (suc b) k i e = by (is_number (key b) k) e (λ x. last_below key b k i x)
   where
@@ -183,20 +171,12 @@ last_below key (suc b) k i e = by (is_number (key b) k) e (λ x. last_below key 
     by true e rest = let same : b ≡ i = cc in omega (arith, same)
     by false e rest = let low = rest e in omega (arith, low)
 
--- of declarations, definitions and parameters only the first have objects of static duration below them
-abbrev place_inside : Kind → ℕ → Around → Place
-place_inside k i a = (inside k i a).place
-
 kept_there : (k : Kind) (i : ℕ) (a : Around) (c : Option Class) → is_kept (inside k i a).place c ≡ true → names_ordinary (Some k) ≡ true → k ≡ kind.Declaration
 unfolding inside
 kept_there kind.Declaration i a c h g = refl
 kept_there kind.FunctionDefinition i a c h g = absurd (false≢true h)
 kept_there kind.Parameter i a c h g = absurd (false≢true h)
 kept_there k i a c h g = absurd (false≢true g)
-
-place_init : (k : Kind) (i : ℕ) (a : Around) → k ≡ kind.InitDeclarator → (inside k i a).place ≡ a.place
-unfolding inside
-place_init k i a e = ap (λ x. place_inside x i a) e
 
 -- ---- what tells a declared name
 
@@ -227,26 +207,8 @@ pub enumerator_nameless : (k : Kind) (at : ℕ → Named) (i : ℕ) (n : Node) (
 enumerator_nameless k at i n token e f = let never : None ≡ Some token = sym (ap (λ x. (names_by x at i n).name) e) ∙ f in cc
 
 module _ (file : List ℕ) (t : Typed) (it : IsUnitOfFile file t) where
-  unit : AreOfUnit t
-  unit = of_unit file t it
-
-  order : AreListed t.nodes 0 t.items (length t.nodes)
-  order = order_of file t it
-
-  abbrev made_by : IsTypedBy file it.unit it.names it.checked.checked t
-  made_by = it.checked.by
-
-  abbrev typing : Typing
-  typing = it.checked.checked.whole.typing
-
-  abbrev shapes : List Shape
-  shapes = it.checked.checked.table
-
-  abbrev tree : Tree
-  tree = made_by.tree
-
-  abbrev columns : CheckedColumns
-  columns = made_by.columns
+  open it use {made_by, typing, shapes, tree, columns}
+  open has_unit file t it use {unit, order, nodes_are as same_nodes, count}
 
   abbrev tokens : ℕ
   tokens = length it.unit.tokens.list.items
@@ -254,19 +216,13 @@ module _ (file : List ℕ) (t : Typed) (it : IsUnitOfFile file t) where
   abbrev spelled : ℕ → ℕ
   spelled = spelled_name file it.unit.tokens.list.items
 
-  same_nodes : it.unit.nodes ≡ t.nodes
-  same_nodes = sym made_by.elaborated.nodes_are
-
-  count : length t.nodes ≡ length it.unit.nodes
-  count = ap length made_by.elaborated.nodes_are
-
   abbrev said : ℕ → Specified
   said p = (entry_at typing p).own.specified
 
   -- ---- the whole declarator of a token
 
   module _ (token i q : ℕ) (m : Node) (d : IsDeclarer t.nodes token i q m) where
-    name_key : (w : ℕ) (o : Node) → slice_get t.nodes w ≡ Some o → (declarator_of t.nodes w).name ≡ Some token → name_at t.nodes w ≡ Some token
+    pub name_key : (w : ℕ) (o : Node) → slice_get t.nodes w ≡ Some o → (declarator_of t.nodes w).name ≡ Some token → name_at t.nodes w ≡ Some token
     name_key w o at named = ap (λ x. named_if x (declarator_of t.nodes w).name) at ∙ by o.kind refl
       where
         by : (k : Kind) → o.kind ≡ k → named_by k o.first (declarator_of t.nodes w).name ≡ Some token
@@ -276,7 +232,7 @@ module _ (file : List ℕ) (t : Typed) (it : IsUnitOfFile file t) where
         by k e = named
 
     -- another node of the name is no enumerator, since its token is that of an identifier
-    key_name : (w : ℕ) (o : Node) → slice_get t.nodes w ≡ Some o → name_at t.nodes w ≡ Some token → (declarator_of t.nodes w).name ≡ Some token
+    pub key_name : (w : ℕ) (o : Node) → slice_get t.nodes w ≡ Some o → name_at t.nodes w ≡ Some token → (declarator_of t.nodes w).name ≡ Some token
     key_name w o at e = by o.kind refl (sym (ap (λ p. named_if p (declarator_of t.nodes w).name) at) ∙ e)
       where
         by : (k : Kind) → o.kind ≡ k → named_by k o.first (declarator_of t.nodes w).name ≡ Some token → (declarator_of t.nodes w).name ≡ Some token
@@ -292,7 +248,7 @@ module _ (file : List ℕ) (t : Typed) (it : IsUnitOfFile file t) where
             absurd cc
         by k f g = g
 
-    declarer_is : token < tokens → slice_index_or it.checked.checked.surroundings.bindings.declarers token None ≡ Some q
+    pub declarer_is : token < tokens → slice_index_or it.checked.checked.surroundings.bindings.declarers token None ≡ Some q
     declarer_is low =
         let o = node_there t unit order token i q m d in
         let l = last_there (name_at t.nodes) (length t.nodes) token q (slice_get_within t.nodes q o.0 o.1) (name_key q o.0 o.1 d.name) in
@@ -376,13 +332,13 @@ module _ (file : List ℕ) (t : Typed) (it : IsUnitOfFile file t) where
       ∙ ap (λ ns. names.by_declared (slice_index_or typing.declared w Unclear) (place_of tree w) (is_own w) (is_static tree said (Some w)) (kept_of (entities.entity_of it.unit.nodes ns node))) made_by.are.names_are
 
   -- the token of a declared identifier, and its whole declarator
-  named_token : (node : ℕ) (n : Node) → slice_get t.nodes node ≡ Some n → n.kind ≡ kind.NameDeclarator → entities.named_token it.unit.nodes node ≡ Some n.first
+  pub named_token : (node : ℕ) (n : Node) → slice_get t.nodes node ≡ Some n → n.kind ≡ kind.NameDeclarator → entities.named_token it.unit.nodes node ≡ Some n.first
   named_token node n at is =
       ap (λ ns. entities.named_token ns node) same_nodes
       ∙ ap (λ o. if entities.is_name (scripts.kind_if o) then scripts.first_if o else None) at
       ∙ ap (λ k. if entities.is_name (Some k) then Some n.first else None) is
 
-  token_few : (node : ℕ) (n : Node) → slice_get t.nodes node ≡ Some n → n.first < tokens
+  pub token_few : (node : ℕ) (n : Node) → slice_get t.nodes node ≡ Some n → n.first < tokens
   token_few node n at =
       let w = unit.within node n at in
       let low = w.0 in
@@ -444,257 +400,256 @@ module _ (file : List ℕ) (t : Typed) (it : IsUnitOfFile file t) where
           ap (λ o. if names.is_mention o then scripts.first_at it.unit.nodes node else None) kind_is
           ∙ ap (λ ns. scripts.first_at ns node) same_nodes ∙ ap scripts.first_if at
 
-  module _ (shaped : IsShaped it.checked.by.tree) (sighted : AreSighted it.checked.by.tree) where
-    -- ---- the declaration of an object of static duration
+  -- ---- the declaration of an object of static duration
 
-    module _ (token w : ℕ) (o : Node) (at : slice_get t.nodes w ≡ Some o) (key : name_at t.nodes w ≡ Some token) (object : DeclaresObject typing w) (static : is_static tree said (Some w) ≡ true) where
-      abbrev declaration : Option ℕ
-      declaration = declaration_of tree.nodes.now tree.above.now w
+  module _ (token w : ℕ) (o : Node) (at : slice_get t.nodes w ≡ Some o) (key : name_at t.nodes w ≡ Some token) (object : DeclaresObject typing w) (static : is_static tree said (Some w) ≡ true) where
+    abbrev declaration : Option ℕ
+    declaration = declaration_of tree.nodes.now tree.above.now w
 
-      here : slice_get tree.nodes.now w ≡ Some o
-      here = there file t it shaped w o at
+    here : slice_get tree.nodes.now w ≡ Some o
+    here = there file t it w o at
 
-      declares : (declares_name o.kind ≡ true) × (names_ordinary (kind_in tree.nodes.now declaration) ≡ true)
-      declares =
-          object_declares o.kind tree.nodes.now (before_in shapes (cut w typing)).specified (entry_at typing w).own.declarator (entry_at typing w).own.named (entry_at typing w).own.enumerated declaration object.0 object.1.0
-          (sym (ruled tree it.checked.checked.texts shapes typing (is_typing file t it shaped) (holds file t it shaped) w o here).declared ∙ object.1.1)
+    declares : (declares_name o.kind ≡ true) × (names_ordinary (kind_in tree.nodes.now declaration) ≡ true)
+    declares =
+        object_declares o.kind tree.nodes.now (before_in shapes (cut w typing)).specified (entry_at typing w).own.declarator (entry_at typing w).own.named (entry_at typing w).own.enumerated declaration object.0 object.1.0
+        (sym (ruled tree it.checked.checked.texts shapes typing (is_typing file t it) (holds file t it) w o here).declared ∙ object.1.1)
 
-      name_is : (declarator_of t.nodes w).name ≡ Some token
-      name_is = sym (declared_name o.kind o.first (declarator_of t.nodes w).name declares.0) ∙ sym (ap (λ p. named_if p (declarator_of t.nodes w).name) at) ∙ key
+    name_is : (declarator_of t.nodes w).name ≡ Some token
+    name_is = sym (declared_name o.kind o.first (declarator_of t.nodes w).name declares.0) ∙ sym (ap (λ p. named_if p (declarator_of t.nodes w).name) at) ∙ key
 
-      declarator_is : is_declarator o.kind ≡ true
-      declarator_is = is_named_declarator t.nodes w token o at name_is
+    declarator_is : is_declarator o.kind ≡ true
+    declarator_is = is_named_declarator t.nodes w token o at name_is
 
-      kept : is_kept (place_of tree w) (class_of (specified_in said (specifiers_in tree.nodes.now declaration)).storage) ≡ true
-      kept = static
+    kept : is_kept (place_of tree w) (class_of (specified_in said (specifiers_in tree.nodes.now declaration)).storage) ≡ true
+    kept = static
 
-      abbrev Is : Type 0
-      Is = (i : ℕ) × ((m : Node) × IsDeclarer t.nodes token i w m)
+    abbrev Is : Type 0
+    Is = (i : ℕ) × ((m : Node) × IsDeclarer t.nodes token i w m)
 
-      above_column : (p : ℕ) → p < length t.nodes → slice_index_or tree.above.now p None ≡ above_of t.nodes (length t.nodes) p
-      above_column p low =
-          ap (λ column. slice_index_or column p None) made_by.is.whole.tree.above ∙ made_by.is.surroundings.above.each p (subst (λ ns. p < length ns) (sym same_nodes) low)
-          ∙ ap (λ ns. above_of ns (length ns) p) same_nodes
+    above_column : (p : ℕ) → p < length t.nodes → slice_index_or tree.above.now p None ≡ above_of t.nodes (length t.nodes) p
+    above_column p low =
+        ap (λ column. slice_index_or column p None) made_by.is.whole.tree.above ∙ made_by.is.surroundings.above.each p (subst (λ ns. p < length ns) (sym same_nodes) low)
+        ∙ ap (λ ns. above_of ns (length ns) p) same_nodes
 
-      part_of : (p a : ℕ) → p < length t.nodes → slice_index_or tree.above.now p None ≡ Some a → IsPartOf t unit p a
-      part_of p a low e = above_some t unit (length t.nodes) p a (sym (above_column p low) ∙ e)
+    part_of : (p a : ℕ) → p < length t.nodes → slice_index_or tree.above.now p None ≡ Some a → IsPartOf t unit p a
+    part_of p a low e = above_some t unit (length t.nodes) p a (sym (above_column p low) ∙ e)
 
-      -- of a declaration all parts but the first are declarators
-      behind : (i p : ℕ) (m own : Node) → slice_get t.nodes i ≡ Some m → slice_get t.nodes p ≡ Some own → m.kind ≡ kind.Declaration → (is_declarator own.kind ≡ true) ⊎ (own.kind ≡ kind.InitDeclarator)
-          → (p ≡ w) ⊎ ((scripts.kind_at t.nodes p ≡ Some kind.InitDeclarator) × (slice_get (scripts.parts_at t.nodes p) 0 ≡ Some w)) → (k : ℕ) → slice_get m.parts k ≡ Some p → Is
-      behind i p m own i_at p_at is sort decl zero e =
-          let x = shaped.parts i m (there file t it shaped i m i_at) 0 p e in
-          let same : x.own ≡ own = some_same x.own own (sym x.at ∙ there file t it shaped p own p_at) in
-          let specifier : is_specifier own.kind ≡ true = ap (λ (y : Node). is_specifier y.kind) (sym same) ∙ ap (λ k. fits k 0 x.own.kind) (sym is) ∙ x.fits in
-          absurd (elim sort [ inl d ↦ no_specifier own.kind d specifier | inr d ↦ false≢true (sym (ap is_specifier d) ∙ specifier) ])
-      behind i p m own i_at p_at is sort decl (suc k) e = (
-        i,
-        (
-          m,
-          record {
-            at = i_at;
-            external = ap is_external is;
-            place = k;
-            first = λ other. (let never : kind.Declaration ≡ kind.FunctionDefinition = sym is ∙ other in absurd cc);
-            part = p;
-            is = e;
-            declares = decl;
-            name = name_is;
-          },
-        ),
-      )
+    -- of a declaration all parts but the first are declarators
+    behind : (i p : ℕ) (m own : Node) → slice_get t.nodes i ≡ Some m → slice_get t.nodes p ≡ Some own → m.kind ≡ kind.Declaration → (is_declarator own.kind ≡ true) ⊎ (own.kind ≡ kind.InitDeclarator)
+        → (p ≡ w) ⊎ ((scripts.kind_at t.nodes p ≡ Some kind.InitDeclarator) × (slice_get (scripts.parts_at t.nodes p) 0 ≡ Some w)) → (k : ℕ) → slice_get m.parts k ≡ Some p → Is
+    behind i p m own i_at p_at is sort decl zero e =
+        let x = (shaped file t it).parts i m (there file t it i m i_at) 0 p e in
+        let same : x.own ≡ own = same_Some x.own own (sym x.at ∙ there file t it p own p_at) in
+        let specifier : is_specifier own.kind ≡ true = ap (λ (y : Node). is_specifier y.kind) (sym same) ∙ ap (λ k. fits k 0 x.own.kind) (sym is) ∙ x.fits in
+        absurd (elim sort [ inl d ↦ no_specifier own.kind d specifier | inr d ↦ false≢true (sym (ap is_specifier d) ∙ specifier) ])
+    behind i p m own i_at p_at is sort decl (suc k) e = (
+      i,
+      (
+        m,
+        record {
+          at = i_at;
+          external = ap is_external is;
+          place = k;
+          first = λ other. (let never : kind.Declaration ≡ kind.FunctionDefinition = sym is ∙ other in absurd cc);
+          part = p;
+          is = e;
+          declares = decl;
+          name = name_is;
+        },
+      ),
+    )
 
-      -- the kind of its declaration
-      declaration_kind : (i : ℕ) (m : Node) → declaration ≡ Some i → slice_get t.nodes i ≡ Some m → names_ordinary (Some m.kind) ≡ true
-      declaration_kind i m e i_at = ap names_ordinary (sym (ap kind_of_node (there file t it shaped i m i_at))) ∙ ap (λ d. names_ordinary (kind_in tree.nodes.now d)) (sym e) ∙ declares.1
+    -- the kind of its declaration
+    declaration_kind : (i : ℕ) (m : Node) → declaration ≡ Some i → slice_get t.nodes i ≡ Some m → names_ordinary (Some m.kind) ≡ true
+    declaration_kind i m e i_at = ap names_ordinary (sym (ap kind_of_node (there file t it i m i_at))) ∙ ap (λ d. names_ordinary (kind_in tree.nodes.now d)) (sym e) ∙ declares.1
 
-      declaration_same : (i : ℕ) → declaration_at tree.nodes.now (Some i) ≡ declaration → declaration ≡ Some i
-      declaration_same i e = by (is_declaration (kind_in tree.nodes.now (Some i))) refl
-        where
-          by : (b : Bool) → is_declaration (kind_in tree.nodes.now (Some i)) ≡ b → declaration ≡ Some i
-          by true q = sym e ∙ ap (λ b. if b then Some i else None) q
-          by false q =
-              let none : declaration ≡ None = sym e ∙ ap (λ b. if b then Some i else None) q in
-              absurd (false≢true (ap (λ x. names_ordinary (kind_in tree.nodes.now x)) (sym none) ∙ declares.1))
-
-      found : Is
-      found = by (slice_index_or tree.above.now w None) refl
-        where
-          by : (a : Option ℕ) → slice_index_or tree.above.now w None ≡ a → Is
-          by None q =
-              let none : declaration ≡ None =
-              ap (λ x. if is_initialised (kind_in tree.nodes.now x) then declaration_at tree.nodes.now (above_in tree.above.now x) else declaration_at tree.nodes.now x) q in
-              absurd (false≢true (ap (λ x. names_ordinary (kind_in tree.nodes.now x)) (sym none) ∙ declares.1))
-          by (Some p) q = initial (is_initialised (kind_in tree.nodes.now (Some p))) refl
-            where
-              h : IsPartOf t unit w p
-              h = part_of w p (slice_get_within t.nodes w o at) q
-
-              has : IsPart tree p h.parent h.place w
-              has = shaped.parts p h.parent (there file t it shaped p h.parent h.at) h.place w h.is
-
-              kind_is : kind_in tree.nodes.now (Some p) ≡ Some h.parent.kind
-              kind_is = ap kind_of_node (there file t it shaped p h.parent h.at)
-
-              of : declaration ≡ (if is_initialised (kind_in tree.nodes.now (Some p)) then declaration_at tree.nodes.now (above_in tree.above.now (Some p)) else declaration_at tree.nodes.now (Some p))
-              of = ap (λ x. if is_initialised (kind_in tree.nodes.now x) then declaration_at tree.nodes.now (above_in tree.above.now x) else declaration_at tree.nodes.now x) q
-
-              kept_in : (k : Kind) (i : ℕ) (a : Around) → place_of tree w ≡ (inside k i a).place → names_ordinary (Some k) ≡ true → k ≡ kind.Declaration
-              kept_in k i a e ordinary =
-                  kept_there k i a (class_of (specified_in said (specifiers_in tree.nodes.now declaration)).storage) (ap (λ x. is_kept x (class_of (specified_in said (specifiers_in tree.nodes.now declaration)).storage)) (sym e) ∙ kept) ordinary
-
-              initial : (b : Bool) → is_initialised (kind_in tree.nodes.now (Some p)) ≡ b → Is
-              initial false f =
-                  let is = declaration_same p (sym (of ∙ ap (λ b. if b then declaration_at tree.nodes.now (above_in tree.above.now (Some p)) else declaration_at tree.nodes.now (Some p)) f)) in
-                  let kind_of = kept_in h.parent.kind p (slice_index_or tree.around.now p outermost) (ap (λ (x : Around). x.place) has.around) (declaration_kind p h.parent is h.at) in
-                  behind p w h.parent o h.at at kind_of (inl declarator_is) (inl refl) h.place h.is
-              initial true f = over (slice_index_or tree.above.now p None) refl
-                where
-                  init_is : h.parent.kind ≡ kind.InitDeclarator
-                  init_is = (let e : Some h.parent.kind ≡ Some kind.InitDeclarator = sym kind_is ∙ only_initialised (kind_in tree.nodes.now (Some p)) f in cc)
-
-                  of_init : declaration ≡ declaration_at tree.nodes.now (slice_index_or tree.above.now p None)
-                  of_init = of ∙ ap (λ b. if b then declaration_at tree.nodes.now (above_in tree.above.now (Some p)) else declaration_at tree.nodes.now (Some p)) f
-
-                  over : (a : Option ℕ) → slice_index_or tree.above.now p None ≡ a → Is
-                  over None g =
-                      let none : declaration ≡ None = of_init ∙ ap (declaration_at tree.nodes.now) g in
-                      absurd (false≢true (ap (λ x. names_ordinary (kind_in tree.nodes.now x)) (sym none) ∙ declares.1))
-                  over (Some i) g =
-                      let up = part_of p i (slice_get_within t.nodes p h.parent h.at) g in
-                      let is = declaration_same i (sym (of_init ∙ ap (declaration_at tree.nodes.now) g)) in
-                      let around = shaped.parts i up.parent (there file t it shaped i up.parent up.at) up.place p up.is in
-                      let place_is : place_of tree w ≡ (inside up.parent.kind i (slice_index_or tree.around.now i outermost)).place =
-                      ap (λ (x : Around). x.place) has.around ∙ place_init h.parent.kind p (slice_index_or tree.around.now p outermost) init_is ∙ ap (λ (x : Around). x.place) around.around in
-                      let kind_of = kept_in up.parent.kind i (slice_index_or tree.around.now i outermost) place_is (declaration_kind i up.parent is up.at) in
-                      let first : h.place ≡ 0 = first_place h.place h.is in
-                      behind i p up.parent h.parent up.at h.at kind_of (inr init_is)
-                      (inr (ap scripts.kind_if h.at ∙ ap Some init_is, ap (λ x. slice_get (scripts.parts_if x) 0) h.at ∙ subst (λ k. slice_get h.parent.parts k ≡ Some w) first h.is)) up.place up.is
-                    where
-                      first_place : (k : ℕ) → slice_get h.parent.parts k ≡ Some w → k ≡ 0
-                      first_place zero e = refl
-                      first_place (suc k) e =
-                          let F : Kind → Type 0 = λ x. IsLaid unit.tokens (side_of x) (row_in t.nodes h.parent.parts) h.parent.first (h.parent.last + 1) in
-                          let second = second_part h.parent.parts h.parent.first (h.parent.last + 1) k w (parts_below t unit p h.parent h.at) (subst F init_is (laid_at t unit p h.parent h.at)) e in
-                          let same : second.0 ≡ o = some_same second.0 o (sym second.1.0 ∙ at) in
-                          absurd (no_initialiser o.kind declarator_is (subst (λ (y : Node). stands_for part.Initializer y.kind ≡ true) same second.1.1))
-
-    -- ---- the first declaration
-
-    -- an identifier of static duration that is declared elsewhere first
-    module _ (node first : ℕ) (n : Node) (at : slice_get t.nodes node ≡ Some n) (is : n.kind ≡ kind.NameDeclarator) (static : is_static_by (slice_index_or t.durations node duration.NoObject) ≡ true)
-        (refer : slice_index_or t.refs node None ≡ Some first) where
-      found_first : (k : ℕ) × ((bound.entity_at it.names n.first ≡ Some k) × BeginsWith k first)
-      found_first = refers node first n at is refer
-
-      abbrev k : ℕ
-      k = found_first.0
-
-      begin : BeginsWith k first
-      begin = found_first.1.1
-
-      low : node < length t.nodes
-      low = slice_get_within t.nodes node n at
-
-      own : entities.named_token it.unit.nodes node ≡ Some n.first
-      own = named_token node n at is
-
-      few : k < length it.names.entities
-      few = few_of spelled (unit_events it.unit) tokens it.names it.known n.first k found_first.1.0
-
-      begins_own : bound.entity_at it.names begin.token ≡ Some k
-      begins_own = begun_own spelled (unit_events it.unit) tokens it.names begin.token k it.known begin.low begin.begins
-
-      -- the node of the first token, which is a declared identifier
-      first_node : (x : Node) × ((slice_get t.nodes first ≡ Some x) × (x.kind ≡ kind.NameDeclarator))
-      first_node = node_of t unit order first kind.NameDeclarator (ap (λ ns. scripts.kind_at ns first) (sym same_nodes) ∙ name_there it.unit.nodes first (subst IsThere (sym begin.named) tt))
-
-      first_token : first_node.0.first ≡ begin.token
-      first_token = some_same first_node.0.first begin.token (sym (named_token first first_node.0 first_node.1.0 first_node.1.1) ∙ begin.named)
-
-      -- its own declaration
-      record HasDeclaration : Type 0 where
-        declaration : ℕ
-        whole : ℕ
-        holder : Node
-        is_declarer : IsDeclarer t.nodes n.first declaration whole holder
-        object : DeclaresObject typing whole
-        kept : kept_of (entities.entity_of it.unit.nodes it.names node) ≡ true
-
-      has : HasDeclaration
-      has = by (entities.whole_of it.unit.nodes columns node) refl
-        where
-          static_it : is_static_by (names.duration_of it.unit.nodes columns node) ≡ true
-          static_it = ap is_static_by (sym (duration_at node low)) ∙ static
-
-          by : (o : Option ℕ) → entities.whole_of it.unit.nodes columns node ≡ o → HasDeclaration
-          by None e =
-              absurd (false≢true (sym (ap (λ o. is_static_by (names.by_declared (entities.declared_of columns o) (names.around_of columns o).place (names.is_own it.unit.nodes columns o (names.around_of columns o).function)
-              (entry_of columns.statics.now false o) (kept_of (entities.entity_of it.unit.nodes columns.names.now node)))) e) ∙ static_it))
-          by (Some w) e =
-              let column : last_with (name_at it.unit.nodes) (length it.unit.nodes) n.first ≡ Some w =
-              sym (made_by.is.surroundings.bindings.declarers.each n.first (token_few node n at)) ∙ sym (whole_by node n.first own) ∙ e in
-              let below = last_below (name_at it.unit.nodes) (length it.unit.nodes) n.first w column in
-              let within : w < length t.nodes = (let c = count in omega (arith, below, c)) in
-              let o = some_at t.nodes w within in
-              let key : name_at t.nodes w ≡ Some n.first = ap (λ ns. name_at ns w) (sym same_nodes) ∙ number_is (name_at it.unit.nodes w) n.first (last_has (name_at it.unit.nodes) (length it.unit.nodes) n.first w column) in
-              let parts = static_by (slice_index_or typing.declared w Unclear) (place_of tree w) (is_own w) (is_static tree said (Some w)) (kept_of (entities.entity_of it.unit.nodes it.names node))
-              (ap is_static_by (sym (duration_is node w e within)) ∙ static_it) in
-              let object : DeclaresObject typing w = (parts.row, (parts.register, parts.object)) in
-              let d = found n.first w o.0 o.1 key object parts.static_is in
-              record { declaration = d.0; whole = w; holder = d.1.0; is_declarer = d.1.1; object = object; kept = parts.kept_is }
-
-      mine : bound.declared_entity it.names n.first ≡ Some k
-      mine = declares_entity spelled (unit_events it.unit) tokens it.names it.known n.first k (token_few node n at) found_first.1.0 (speaks n.first has.declaration has.whole has.holder has.is_declarer)
-
-      its : bound.declared_entity it.names begin.token ≡ Some k
-      its = first_declares spelled (unit_events it.unit) tokens it.names it.known k begin.token begin.begins few begins_own
-
-      least : begin.token ≤ n.first
-      least = first_least spelled (unit_events it.unit) tokens it.names it.known n.first k begin.token (token_few node n at) found_first.1.0 (speaks n.first has.declaration has.whole has.holder has.is_declarer) begin.begins
-
-      -- where the token is another one, its declaration is of static duration too
-      other_static : begin.token < n.first → is_static_by (slice_index_or t.durations first duration.NoObject) ≡ true
-      other_static less =
-          let v : DeclaresValue t.nodes n.first =
-          record { declaration = has.declaration; declarator = has.whole; node = has.holder; is = has.is_declarer; value = value_there file t it shaped sighted n.first has.declaration has.whole has.holder has.is_declarer has.object } in
-          let w = values_share file t it begin.token n.first k its mine v in
-          let object = follows_at file t it shaped sighted n.first begin.token k has.declaration has.whole w.declaration w.declarator has.holder w.node has.is_declarer w.is mine its has.object less in
-          let linked = shared file t it shaped begin.token n.first k w.declaration w.declarator w.node w.is its mine (λ e. absurd (omega (arith, less, e))) object in
-          let whole = whole_by first begin.token begin.named ∙ declarer_is begin.token w.declaration w.declarator w.node w.is begin.low in
-          let o = node_there t unit order begin.token w.declaration w.declarator w.node w.is in
-          let kept : kept_of (entities.entity_of it.unit.nodes it.names first) ≡ true =
-          ap kept_of (entity_by first begin.token begin.named ∙ begins_own ∙ sym found_first.1.0 ∙ sym (entity_by node n.first own)) ∙ has.kept in
-          ap is_static_by (duration_at first (slice_get_within t.nodes first first_node.0 first_node.1.0))
-          ∙ ap is_static_by (duration_is first w.declarator whole (slice_get_within t.nodes w.declarator o.0 o.1))
-          ∙ ap (λ d. is_static_by (names.by_declared d (place_of tree w.declarator) (is_own w.declarator) (is_static tree said (Some w.declarator)) (kept_of (entities.entity_of it.unit.nodes it.names first)))) object.1.1
-          ∙ ap (λ b. is_static_by (names.by_declared (Object object.0 object.1.0) (place_of tree w.declarator) (is_own w.declarator) b (kept_of (entities.entity_of it.unit.nodes it.names first)))) linked.lasts
-          ∙ ap (λ b. is_static_by (names.by_declared (Object object.0 object.1.0) (place_of tree w.declarator) (is_own w.declarator) true b)) kept
-          ∙ made_static object.0 object.1.0 (place_of tree w.declarator) (is_own w.declarator) (stands_there file t it shaped begin.token w.declaration w.declarator w.node w.is object)
-
-      first_static : is_static_by (slice_index_or t.durations first duration.NoObject) ≡ true
-      first_static = elim (cases_lt begin.token n.first) [
-        | inl less ↦ other_static less
-        | inr ge ↦
-            (let le = least in
-            let tokens_same : first_node.0.first ≡ n.first = (let e = first_token in omega (arith, ge, le, e)) in
-            let inner = (unit.within first first_node.0 first_node.1.0).0 in
-            let same : node ≡ first = named_once t unit order node first n first_node.0 n.first at is refl first_node.1.0 (ap is_named first_node.1.1) (omega (arith, tokens_same)) (omega (arith, tokens_same)) (omega (arith, tokens_same, inner)) in
-            subst (λ x. is_static_by (slice_index_or t.durations x duration.NoObject) ≡ true) same static)
-      ]
-
-    pub static_first : (node : ℕ) → is_static_by (slice_index_or t.durations node duration.NoObject) ≡ true → is_static_by (slice_index_or t.durations (entity_of t node) duration.NoObject) ≡ true
-    static_first node static = by (slice_index_or t.refs node None) refl
+    declaration_same : (i : ℕ) → declaration_at tree.nodes.now (Some i) ≡ declaration → declaration ≡ Some i
+    declaration_same i e = by (is_declaration (kind_in tree.nodes.now (Some i))) refl
       where
-        there_is : (n : Node) × ((slice_get t.nodes node ≡ Some n) × (n.kind ≡ kind.NameDeclarator))
-        there_is =
-            let own = static_named file t it node static in
-            let n = some_at t.nodes node own.1 in
-            (n.0, (n.1, sym (ap operations.kind_if n.1) ∙ own.0))
+        by : (b : Bool) → is_declaration (kind_in tree.nodes.now (Some i)) ≡ b → declaration ≡ Some i
+        by true q = sym e ∙ ap (λ b. if b then Some i else None) q
+        by false q =
+            let none : declaration ≡ None = sym e ∙ ap (λ b. if b then Some i else None) q in
+            absurd (false≢true (ap (λ x. names_ordinary (kind_in tree.nodes.now x)) (sym none) ∙ declares.1))
 
-        by : (o : Option ℕ) → slice_index_or t.refs node None ≡ o → is_static_by (slice_index_or t.durations (entity_of t node) duration.NoObject) ≡ true
-        by None e = ap (λ o. is_static_by (slice_index_or t.durations (entity_if o node) duration.NoObject)) e ∙ static
-        by (Some first) e = ap (λ o. is_static_by (slice_index_or t.durations (entity_if o node) duration.NoObject)) e ∙ first_static node first there_is.0 there_is.1.0 there_is.1.1 static e
+    found : Is
+    found = by (slice_index_or tree.above.now w None) refl
+      where
+        by : (a : Option ℕ) → slice_index_or tree.above.now w None ≡ a → Is
+        by None q =
+            let none : declaration ≡ None =
+            ap (λ x. if is_initialised (kind_in tree.nodes.now x) then declaration_at tree.nodes.now (above_in tree.above.now x) else declaration_at tree.nodes.now x) q in
+            absurd (false≢true (ap (λ x. names_ordinary (kind_in tree.nodes.now x)) (sym none) ∙ declares.1))
+        by (Some p) q = initial (is_initialised (kind_in tree.nodes.now (Some p))) refl
+          where
+            h : IsPartOf t unit w p
+            h = part_of w p (slice_get_within t.nodes w o at) q
+
+            has : IsPart tree p h.parent h.place w
+            has = (shaped file t it).parts p h.parent (there file t it p h.parent h.at) h.place w h.is
+
+            kind_is : kind_in tree.nodes.now (Some p) ≡ Some h.parent.kind
+            kind_is = ap kind_of_node (there file t it p h.parent h.at)
+
+            of : declaration ≡ (if is_initialised (kind_in tree.nodes.now (Some p)) then declaration_at tree.nodes.now (above_in tree.above.now (Some p)) else declaration_at tree.nodes.now (Some p))
+            of = ap (λ x. if is_initialised (kind_in tree.nodes.now x) then declaration_at tree.nodes.now (above_in tree.above.now x) else declaration_at tree.nodes.now x) q
+
+            kept_in : (k : Kind) (i : ℕ) (a : Around) → place_of tree w ≡ (inside k i a).place → names_ordinary (Some k) ≡ true → k ≡ kind.Declaration
+            kept_in k i a e ordinary =
+                kept_there k i a (class_of (specified_in said (specifiers_in tree.nodes.now declaration)).storage) (ap (λ x. is_kept x (class_of (specified_in said (specifiers_in tree.nodes.now declaration)).storage)) (sym e) ∙ kept) ordinary
+
+            initial : (b : Bool) → is_initialised (kind_in tree.nodes.now (Some p)) ≡ b → Is
+            initial false f =
+                let is = declaration_same p (sym (of ∙ ap (λ b. if b then declaration_at tree.nodes.now (above_in tree.above.now (Some p)) else declaration_at tree.nodes.now (Some p)) f)) in
+                let kind_of = kept_in h.parent.kind p (slice_index_or tree.around.now p outermost) (ap (λ (x : Around). x.place) has.around) (declaration_kind p h.parent is h.at) in
+                behind p w h.parent o h.at at kind_of (inl declarator_is) (inl refl) h.place h.is
+            initial true f = over (slice_index_or tree.above.now p None) refl
+              where
+                init_is : h.parent.kind ≡ kind.InitDeclarator
+                init_is = (let e : Some h.parent.kind ≡ Some kind.InitDeclarator = sym kind_is ∙ only_initialised (kind_in tree.nodes.now (Some p)) f in cc)
+
+                of_init : declaration ≡ declaration_at tree.nodes.now (slice_index_or tree.above.now p None)
+                of_init = of ∙ ap (λ b. if b then declaration_at tree.nodes.now (above_in tree.above.now (Some p)) else declaration_at tree.nodes.now (Some p)) f
+
+                over : (a : Option ℕ) → slice_index_or tree.above.now p None ≡ a → Is
+                over None g =
+                    let none : declaration ≡ None = of_init ∙ ap (declaration_at tree.nodes.now) g in
+                    absurd (false≢true (ap (λ x. names_ordinary (kind_in tree.nodes.now x)) (sym none) ∙ declares.1))
+                over (Some i) g =
+                    let up = part_of p i (slice_get_within t.nodes p h.parent h.at) g in
+                    let is = declaration_same i (sym (of_init ∙ ap (declaration_at tree.nodes.now) g)) in
+                    let around = (shaped file t it).parts i up.parent (there file t it i up.parent up.at) up.place p up.is in
+                    let place_is : place_of tree w ≡ (inside up.parent.kind i (slice_index_or tree.around.now i outermost)).place =
+                    ap (λ (x : Around). x.place) has.around ∙ place_init h.parent.kind p (slice_index_or tree.around.now p outermost) init_is ∙ ap (λ (x : Around). x.place) around.around in
+                    let kind_of = kept_in up.parent.kind i (slice_index_or tree.around.now i outermost) place_is (declaration_kind i up.parent is up.at) in
+                    let first : h.place ≡ 0 = first_place h.place h.is in
+                    behind i p up.parent h.parent up.at h.at kind_of (inr init_is)
+                    (inr (ap scripts.kind_if h.at ∙ ap Some init_is, ap (λ x. slice_get (scripts.parts_if x) 0) h.at ∙ subst (λ k. slice_get h.parent.parts k ≡ Some w) first h.is)) up.place up.is
+                  where
+                    first_place : (k : ℕ) → slice_get h.parent.parts k ≡ Some w → k ≡ 0
+                    first_place zero e = refl
+                    first_place (suc k) e =
+                        let F : Kind → Type 0 = λ x. IsLaid unit.tokens (side_of x) (row_in t.nodes h.parent.parts) h.parent.first (h.parent.last + 1) in
+                        let second = second_part h.parent.parts h.parent.first (h.parent.last + 1) k w (parts_below t unit p h.parent h.at) (subst F init_is (laid_at t unit p h.parent h.at)) e in
+                        let same : second.0 ≡ o = same_Some second.0 o (sym second.1.0 ∙ at) in
+                        absurd (no_initialiser o.kind declarator_is (subst (λ (y : Node). stands_for part.Initializer y.kind ≡ true) same second.1.1))
+
+  -- ---- the first declaration
+
+  -- an identifier of static duration that is declared elsewhere first
+  module _ (node first : ℕ) (n : Node) (at : slice_get t.nodes node ≡ Some n) (is : n.kind ≡ kind.NameDeclarator) (static : is_static_by (slice_index_or t.durations node duration.NoObject) ≡ true)
+      (refer : slice_index_or t.refs node None ≡ Some first) where
+    found_first : (k : ℕ) × ((bound.entity_at it.names n.first ≡ Some k) × BeginsWith k first)
+    found_first = refers node first n at is refer
+
+    abbrev k : ℕ
+    k = found_first.0
+
+    begin : BeginsWith k first
+    begin = found_first.1.1
+
+    low : node < length t.nodes
+    low = slice_get_within t.nodes node n at
+
+    own : entities.named_token it.unit.nodes node ≡ Some n.first
+    own = named_token node n at is
+
+    few : k < length it.names.entities
+    few = few_of spelled (unit_events it.unit) tokens it.names it.known n.first k found_first.1.0
+
+    begins_own : bound.entity_at it.names begin.token ≡ Some k
+    begins_own = begun_own spelled (unit_events it.unit) tokens it.names begin.token k it.known begin.low begin.begins
+
+    -- the node of the first token, which is a declared identifier
+    first_node : (x : Node) × ((slice_get t.nodes first ≡ Some x) × (x.kind ≡ kind.NameDeclarator))
+    first_node = node_of t unit order first kind.NameDeclarator (ap (λ ns. scripts.kind_at ns first) (sym same_nodes) ∙ name_there it.unit.nodes first (subst IsThere (sym begin.named) tt))
+
+    first_token : first_node.0.first ≡ begin.token
+    first_token = same_Some first_node.0.first begin.token (sym (named_token first first_node.0 first_node.1.0 first_node.1.1) ∙ begin.named)
+
+    -- its own declaration
+    record HasDeclaration : Type 0 where
+      declaration : ℕ
+      whole : ℕ
+      holder : Node
+      is_declarer : IsDeclarer t.nodes n.first declaration whole holder
+      object : DeclaresObject typing whole
+      kept : kept_of (entities.entity_of it.unit.nodes it.names node) ≡ true
+
+    has : HasDeclaration
+    has = by (entities.whole_of it.unit.nodes columns node) refl
+      where
+        static_it : is_static_by (names.duration_of it.unit.nodes columns node) ≡ true
+        static_it = ap is_static_by (sym (duration_at node low)) ∙ static
+
+        by : (o : Option ℕ) → entities.whole_of it.unit.nodes columns node ≡ o → HasDeclaration
+        by None e =
+            absurd (false≢true (sym (ap (λ o. is_static_by (names.by_declared (entities.declared_of columns o) (names.around_of columns o).place (names.is_own it.unit.nodes columns o (names.around_of columns o).function)
+            (entry_of columns.statics.now false o) (kept_of (entities.entity_of it.unit.nodes columns.names.now node)))) e) ∙ static_it))
+        by (Some w) e =
+            let column : last_with (name_at it.unit.nodes) (length it.unit.nodes) n.first ≡ Some w =
+            sym (made_by.is.surroundings.bindings.declarers.each n.first (token_few node n at)) ∙ sym (whole_by node n.first own) ∙ e in
+            let below = last_below (name_at it.unit.nodes) (length it.unit.nodes) n.first w column in
+            let within : w < length t.nodes = (let c = count in omega (arith, below, c)) in
+            let o = some_at t.nodes w within in
+            let key : name_at t.nodes w ≡ Some n.first = ap (λ ns. name_at ns w) (sym same_nodes) ∙ number_is (name_at it.unit.nodes w) n.first (last_has (name_at it.unit.nodes) (length it.unit.nodes) n.first w column) in
+            let parts = static_by (slice_index_or typing.declared w Unclear) (place_of tree w) (is_own w) (is_static tree said (Some w)) (kept_of (entities.entity_of it.unit.nodes it.names node))
+            (ap is_static_by (sym (duration_is node w e within)) ∙ static_it) in
+            let object : DeclaresObject typing w = (parts.row, (parts.register, parts.object)) in
+            let d = found n.first w o.0 o.1 key object parts.static_is in
+            record { declaration = d.0; whole = w; holder = d.1.0; is_declarer = d.1.1; object = object; kept = parts.kept_is }
+
+    mine : bound.declared_entity it.names n.first ≡ Some k
+    mine = declares_entity spelled (unit_events it.unit) tokens it.names it.known n.first k (token_few node n at) found_first.1.0 (speaks n.first has.declaration has.whole has.holder has.is_declarer)
+
+    its : bound.declared_entity it.names begin.token ≡ Some k
+    its = first_declares spelled (unit_events it.unit) tokens it.names it.known k begin.token begin.begins few begins_own
+
+    least : begin.token ≤ n.first
+    least = first_least spelled (unit_events it.unit) tokens it.names it.known n.first k begin.token (token_few node n at) found_first.1.0 (speaks n.first has.declaration has.whole has.holder has.is_declarer) begin.begins
+
+    -- where the token is another one, its declaration is of static duration too
+    other_static : begin.token < n.first → is_static_by (slice_index_or t.durations first duration.NoObject) ≡ true
+    other_static less =
+        let v : DeclaresValue t.nodes n.first =
+        record { declaration = has.declaration; declarator = has.whole; node = has.holder; is = has.is_declarer; value = value_there file t it n.first has.declaration has.whole has.holder has.is_declarer has.object } in
+        let w = values_share file t it begin.token n.first k its mine v in
+        let object = follows_at file t it n.first begin.token k has.declaration has.whole w.declaration w.declarator has.holder w.node has.is_declarer w.is mine its has.object less in
+        let linked = shared file t it begin.token n.first k w.declaration w.declarator w.node w.is its mine (λ e. absurd (omega (arith, less, e))) object in
+        let whole = whole_by first begin.token begin.named ∙ declarer_is begin.token w.declaration w.declarator w.node w.is begin.low in
+        let o = node_there t unit order begin.token w.declaration w.declarator w.node w.is in
+        let kept : kept_of (entities.entity_of it.unit.nodes it.names first) ≡ true =
+        ap kept_of (entity_by first begin.token begin.named ∙ begins_own ∙ sym found_first.1.0 ∙ sym (entity_by node n.first own)) ∙ has.kept in
+        ap is_static_by (duration_at first (slice_get_within t.nodes first first_node.0 first_node.1.0))
+        ∙ ap is_static_by (duration_is first w.declarator whole (slice_get_within t.nodes w.declarator o.0 o.1))
+        ∙ ap (λ d. is_static_by (names.by_declared d (place_of tree w.declarator) (is_own w.declarator) (is_static tree said (Some w.declarator)) (kept_of (entities.entity_of it.unit.nodes it.names first)))) object.1.1
+        ∙ ap (λ b. is_static_by (names.by_declared (Object object.0 object.1.0) (place_of tree w.declarator) (is_own w.declarator) b (kept_of (entities.entity_of it.unit.nodes it.names first)))) linked.lasts
+        ∙ ap (λ b. is_static_by (names.by_declared (Object object.0 object.1.0) (place_of tree w.declarator) (is_own w.declarator) true b)) kept
+        ∙ made_static object.0 object.1.0 (place_of tree w.declarator) (is_own w.declarator) (stands_there file t it begin.token w.declaration w.declarator w.node w.is object)
+
+    first_static : is_static_by (slice_index_or t.durations first duration.NoObject) ≡ true
+    first_static = elim (cases_lt begin.token n.first) [
+      | inl less ↦ other_static less
+      | inr ge ↦
+          (let le = least in
+          let tokens_same : first_node.0.first ≡ n.first = (let e = first_token in omega (arith, ge, le, e)) in
+          let inner = (unit.within first first_node.0 first_node.1.0).0 in
+          let same : node ≡ first = named_once t unit order node first n first_node.0 n.first at is refl first_node.1.0 (ap is_named first_node.1.1) (omega (arith, tokens_same)) (omega (arith, tokens_same)) (omega (arith, tokens_same, inner)) in
+          subst (λ x. is_static_by (slice_index_or t.durations x duration.NoObject) ≡ true) same static)
+    ]
+
+  pub static_first : (node : ℕ) → is_static_by (slice_index_or t.durations node duration.NoObject) ≡ true → is_static_by (slice_index_or t.durations (entity_of t node) duration.NoObject) ≡ true
+  static_first node static = by (slice_index_or t.refs node None) refl
+    where
+      there_is : (n : Node) × ((slice_get t.nodes node ≡ Some n) × (n.kind ≡ kind.NameDeclarator))
+      there_is =
+          let own = static_named file t it node static in
+          let n = some_at t.nodes node own.1 in
+          (n.0, (n.1, sym (ap operations.kind_if n.1) ∙ own.0))
+
+      by : (o : Option ℕ) → slice_index_or t.refs node None ≡ o → is_static_by (slice_index_or t.durations (entity_of t node) duration.NoObject) ≡ true
+      by None e = ap (λ o. is_static_by (slice_index_or t.durations (entity_if o node) duration.NoObject)) e ∙ static
+      by (Some first) e = ap (λ o. is_static_by (slice_index_or t.durations (entity_if o node) duration.NoObject)) e ∙ first_static node first there_is.0 there_is.1.0 there_is.1.1 static e
 
 pub statics : Laws.FirstsAreStatic
-statics file t it shaped sighted node static = static_first file t it shaped sighted node static
+statics file t it node static = static_first file t it node static

@@ -1,12 +1,10 @@
 -- The identifier of a parameter, by which a run enters its object, and the type of that.
 use Rattle.std.proofs.Common.{◌≡◌, ℕ, zero, suc, ◌<◌, ◌≤◌, inl, inr, Bool, true, false, List, [], ◌∷◌, Option, None, Some, length, nat_lt, slice_get, slice_index_or, refl, sym, ap, subst, ◌∙◌, arith, if◌then◌else◌}
 use Rattle.std.proofs.lemmas.Bool.{cases_lt, cases_eq, false≢true, eqb-true, eq-eqb, lt-ltb}
-use Rattle.std.proofs.lemmas.List.{get_or-map}
-use Rattle.std.proofs.lemmas.Option.{slice_get_within}
+use Rattle.std.proofs.lemmas.Option.{slice_get_within, same_Some}
 use Rattle.cr_syntax.specs.declared.node.Kind.{Kind}
 use Rattle.cr_syntax.specs.declared.node.Kind.TheVariants as kind
 use Rattle.cr_syntax.specs.declared.node.Node.{Node}
-use Rattle.cr_syntax_order.specs.Listed.{AreListed}
 use Rattle.cr_scopes_events.specs.declared.event.Role.{Role}
 use Rattle.cr_scopes_events.specs.declared.event.Role.TheVariants as role
 use Rattle.cr_scopes_events.specs.declared.event.Event.{Event}
@@ -30,45 +28,37 @@ use Rattle.cr_scopes_bindings.specs.Nodes.{named_by, named_if, name_at}
 use Rattle.cr_scopes_bindings.specs.Entities as bound
 use Rattle.cr_scopes_visibility.specs.Alone.Alone.{IsAlone}
 use Rattle.cr_scopes_visibility.specs.Alone.Sight.{is_used, IsSeen}
-use Rattle.cr_scopes_visibility.proofs.AloneLemmas.First.{within_is}
+use Rattle.cr_scopes_visibility.proofs.AloneLemmas.First.{within_is, number_same as number_of}
 use Rattle.cr_scopes_visibility.proofs.AloneLemmas.Sight.{seen_is}
 use Rattle.cr_scopes_linkage.specs.Shared.Origins.{is_external, IsDeclarer}
 use Rattle.cr_scopes_typedef_names.specs.Tellings.Tellings.{is_tag, Telling, by_declaration, by_parameter, by_enumerator, by_tag, by_use, AllNames}
 use Rattle.cr_scopes_typedef_names.proofs.TellingsLemmas.Scripts.{all_told}
 use Rattle.cr_check_enclosing.specs.Above.{above_of}
-use Rattle.cr_check_types.specs.declared.shape.Shape.{Shape}
-use Rattle.cr_check_types.specs.Types.{Qualified, unknown, type_at}
+use Rattle.cr_check_types.specs.Types.{Qualified, type_at}
 use Rattle.cr_check_expressions.specs.declared.known.Declared.{Declared}
 use Rattle.cr_check_expressions.specs.declared.known.Declared.TheVariants.{Object, Enumerator, Function, TypeName, Unclear}
 use Rattle.cr_check_expressions.specs.declared.least.Break.{Break}
-use Rattle.cr_check_declarations.specs.declared.tree.Tree.{Tree}
-use Rattle.cr_check_unit.specs.declared.typing.Typing.{Typing}
 use Rattle.cr_check_unit.specs.Breaks.{IsBroken}
 use Rattle.cr_check_signatures.specs.Functions.Outlines.{head}
+use Rattle.cr_check_signatures.proofs.FunctionsLemmas.Linked.{is_function}
 use Rattle.cr_typed.specs.declared.typed.Typed.{Typed}
-use Rattle.cr_typed_columns.specs.declared.checked.CheckedColumns.{CheckedColumns}
 use Rattle.cr_typed_columns.specs.Reading.{Parsed, parsed_of, kind_of, entry_of}
 use Rattle.cr_typed_columns.specs.Entities as entities
 use Rattle.cr_typed_columns.specs.Functions as functions
 use Rattle.cr_typed_columns.specs.Names as names
-use Rattle.cr_typed_unit.specs.Typed.{IsTypedBy}
 use Rattle.cr_meaning_operations.specs.Shapes.{named_type}
-use Rattle.cr_meaning_declarations.specs.Units.Owned.{AreOfUnit}
 use Rattle.cr_meaning_declarations.proofs.NamesLemmas.Leaves.{is_named, named_once, no_use}
 use Rattle.cr_meaning_declarations.proofs.NamesLemmas.Parents.{is_deriving, IsPartOf, one_parent, above_is, IsInside, as_part, whole_is}
 use Rattle.cr_meaning_declarations.proofs.NamesLemmas.Walks as walks
-use Rattle.cr_meaning_declarations.proofs.NamesLemmas.Walks.{some_same, all_alone, unit_good}
+use Rattle.cr_meaning_declarations.proofs.NamesLemmas.Walks.{all_alone, unit_good}
 use Rattle.cr_meaning_declarations.specs.Declared.Files.{IsUnitOfFile}
-use Rattle.cr_meaning_declarations.proofs.DeclaredLemmas.Nodes.{of_unit}
-use Rattle.cr_meaning_declarations.proofs.DeclaredLemmas.Bodies.{listed_at, last_has}
+use Rattle.cr_meaning_declarations.proofs.DeclaredLemmas.Bodies.{last_has, type_is}
 use Rattle.cr_meaning_declarations.proofs.LinkedLemmas.Owned.{HasOwn, own_there, part_of, in_init, alone}
+use Rattle.cr_meaning_declarations.proofs.DeclaredLemmas.Files.{has_unit}
 use Rattle.cr_meaning_composites.proofs.ParametersLemmas.Heads.{composite_head}
+use Rattle.cr_meaning_composites.proofs.ComposedLemmas.Named.{IsName}
 
 -- ---- the last number that has a key
-
-number_of : (o : Option ℕ) (k : ℕ) → is_number o k ≡ true → o ≡ Some k
-number_of None k h = absurd (false≢true h)
-number_of (Some j) k h = ap Some (eqb-true j k h)
 
 last_is : (key : ℕ → Option ℕ) (bound k i : ℕ) → key i ≡ Some k → i < bound → ((j : ℕ) → i < j → j < bound → key j ≡ Some k → ⊥) → last_with key bound k ≡ Some i
 last_is key zero k i own low others = absurd (omega (arith, low))
@@ -148,58 +138,15 @@ enumerator_names_nothing nodes p n token at is e =
 no_external : (k : Kind) → is_external k ≡ true → k ≡ kind.Parameter → ⊥
 no_external k h e = false≢true (sym (ap is_external e) ∙ h)
 
--- what is no function
-abbrev pub is_function : Declared → Bool
-is_function (Function row more) = true
-is_function d = false
-
 module _ (file : List ℕ) (t : Typed) (it : IsUnitOfFile file t) where
-  pub unit : AreOfUnit t
-  unit = of_unit file t it
-
-  abbrev made_by : IsTypedBy file it.unit it.names it.checked.checked t
-  made_by = it.checked.by
-
-  abbrev typing : Typing
-  typing = it.checked.checked.whole.typing
-
-  abbrev shapes : List Shape
-  shapes = it.checked.checked.table
-
-  abbrev tree : Tree
-  tree = made_by.tree
-
-  abbrev columns : CheckedColumns
-  columns = made_by.columns
+  open it use {made_by, typing, shapes, tree, columns}
+  open has_unit file t it use {unit, nodes_are, tree_nodes, order, count}
 
   abbrev parsed : Parsed
   parsed = parsed_of it.unit
 
-  nodes_are : it.unit.nodes ≡ t.nodes
-  nodes_are = sym made_by.elaborated.nodes_are
-
-  tree_nodes : tree.nodes.now ≡ t.nodes
-  tree_nodes = made_by.is.whole.tree.nodes ∙ nodes_are
-
-  pub order : AreListed t.nodes 0 t.items (length t.nodes)
-  order =
-      subst (λ is. AreListed t.nodes 0 is (length t.nodes)) (sym made_by.elaborated.items_are)
-      (subst (λ ns. AreListed ns 0 it.unit.items (length ns)) nodes_are it.listed)
-
-  count : length t.nodes ≡ length it.unit.nodes
-  count = ap length made_by.elaborated.nodes_are
-
   holds : (b : Break) → IsBroken tree it.checked.checked.texts shapes typing b → ⊥
   holds b broken = made_by.sound.constraints b (inl broken)
-
-  -- the type that a node names in the typed unit
-  type_is : (i : ℕ) → i < length t.nodes → named_type t i ≡ names.named_of parsed columns i
-  type_is i low =
-      let rows = made_by.fits.named_count in
-      let few = count in
-      sym (get_or-map (type_at t.shapes) t.named i 0 unknown (omega (arith, low, rows)))
-      ∙ ap (λ ts. slice_index_or ts i unknown) made_by.elaborated.named.are
-      ∙ listed_at (names.named_of parsed columns) (length it.unit.nodes) i unknown (omega (arith, low, few))
 
   -- the token of a declared identifier
   pub token_at : (i : ℕ) (n : Node) → slice_get t.nodes i ≡ Some n → n.kind ≡ kind.NameDeclarator → entities.named_token it.unit.nodes i ≡ Some n.first
@@ -207,35 +154,28 @@ module _ (file : List ℕ) (t : Typed) (it : IsUnitOfFile file t) where
       ap (λ ns. entities.named_token ns i) nodes_are ∙ ap (λ o. if entities.is_name (scripts.kind_if o) then scripts.first_if o else None) at
       ∙ ap (λ k. if entities.is_name (Some k) then Some n.first else None) is
 
-  -- and a node that has one is such an identifier
-  pub record IsName (i token : ℕ) : Type 0 where
-    pub node : Node
-    pub at : slice_get t.nodes i ≡ Some node
-    pub is : node.kind ≡ kind.NameDeclarator
-    pub first : node.first ≡ token
-
-  pub name_there : (i token : ℕ) → entities.named_token it.unit.nodes i ≡ Some token → IsName i token
+  pub name_there : (i token : ℕ) → entities.named_token it.unit.nodes i ≡ Some token → IsName file t it i token
   name_there i token e = by (slice_get t.nodes i) refl (ap (λ ns. entities.named_token ns i) (sym nodes_are) ∙ e)
     where
-      by_kind : (m : Node) → slice_get t.nodes i ≡ Some m → (k : Kind) → m.kind ≡ k → (if entities.is_name (Some k) then Some m.first else None) ≡ Some token → IsName i token
+      by_kind : (m : Node) → slice_get t.nodes i ≡ Some m → (k : Kind) → m.kind ≡ k → (if entities.is_name (Some k) then Some m.first else None) ≡ Some token → IsName file t it i token
       by_kind m at kind.NameDeclarator is f = let same : m.first ≡ token = cc f in record { node = m; at = at; is = is; first = same }
       by_kind m at k is f = absurd (cc f)
 
-      by : (o : Option Node) → slice_get t.nodes i ≡ o → entities.named_token t.nodes i ≡ Some token → IsName i token
+      by : (o : Option Node) → slice_get t.nodes i ≡ o → entities.named_token t.nodes i ≡ Some token → IsName file t it i token
       by None at f =
           let never : None ≡ Some token = sym (ap (λ o. if entities.is_name (scripts.kind_if o) then scripts.first_if o else None) at) ∙ f in
           absurd (cc never)
       by (Some m) at f = by_kind m at m.kind refl (sym (ap (λ o. if entities.is_name (scripts.kind_if o) then scripts.first_if o else None) at) ∙ f)
 
   -- one token, one identifier
-  pub one_name : (i j token : ℕ) → IsName i token → IsName j token → i ≡ j
+  pub one_name : (i j token : ℕ) → IsName file t it i token → IsName file t it j token → i ≡ j
   one_name i j token x y =
       let w = (unit.within j y.node y.at).0 in
       let same = y.first in
       named_once t unit order i j x.node y.node token x.at x.is x.first y.at (ap is_named y.is) (omega (arith, same)) (omega (arith, same)) (omega (arith, same, w))
 
   -- it isn't used
-  unused : (i token : ℕ) (r : Role) → IsName i token → Telling it.unit.nodes token r → is_used r ≡ true → ⊥
+  unused : (i token : ℕ) (r : Role) → IsName file t it i token → Telling it.unit.nodes token r → is_used r ≡ true → ⊥
   unused i token r x (by_declaration d e) u = false≢true (sym (role_unused (storage_of it.unit.nodes d.own.parts) (declarator_of it.unit.nodes d.declarator).next) ∙ ap is_used (sym e) ∙ u)
   unused i token r x (by_parameter d e) u = false≢true (ap is_used (sym e) ∙ u)
   unused i token r x (by_enumerator d e) u = false≢true (ap is_used (sym e) ∙ u)
@@ -255,7 +195,7 @@ module _ (file : List ℕ) (t : Typed) (it : IsUnitOfFile file t) where
     abbrev pub own : ℕ
     own = has_own.own
 
-    own_name : IsName own token
+    own_name : IsName file t it own token
     own_name = record { node = has_own.node; at = has_own.at; is = has_own.is; first = has_own.first }
 
     pub own_low : own < length t.nodes
@@ -277,7 +217,7 @@ module _ (file : List ℕ) (t : Typed) (it : IsUnitOfFile file t) where
     alone_p : (b : ℕ) → IsInside t unit p b → ⊥
     alone_p b inner =
         let e : x ≡ b = one_parent t unit p x b part_x (as_part t unit p b inner) in
-        let one : nx ≡ inner.outer = some_same nx inner.outer (sym at_x ∙ ap (slice_get t.nodes) e ∙ inner.at) in
+        let one : nx ≡ inner.outer = same_Some nx inner.outer (sym at_x ∙ ap (slice_get t.nodes) e ∙ inner.at) in
         false≢true (ap (is_deriving t unit) (sym is ∙ ap (λ (y : Node). y.kind) one) ∙ inner.derives)
 
     -- so it is the last node that has the name
@@ -294,7 +234,7 @@ module _ (file : List ℕ) (t : Typed) (it : IsUnitOfFile file t) where
             let same : m.first ≡ token = cc f in
             let w = (unit.within q m at).0 in
             let one : own ≡ q = named_once t unit order own q has_own.node m token has_own.at has_own.is has_own.first at (ap is_named k) (omega (arith, same)) (omega (arith, same)) (omega (arith, same, w)) in
-            let node : has_own.node ≡ m = some_same has_own.node m (sym has_own.at ∙ ap (slice_get t.nodes) one ∙ at) in
+            let node : has_own.node ≡ m = same_Some has_own.node m (sym has_own.at ∙ ap (slice_get t.nodes) one ∙ at) in
             let never : kind.NameDeclarator ≡ kind.Enumerator = sym has_own.is ∙ ap (λ (y : Node). y.kind) node ∙ k in
             absurd (cc never)
         by_kind m at k is f = f
@@ -342,13 +282,13 @@ module _ (file : List ℕ) (t : Typed) (it : IsUnitOfFile file t) where
     undeclared i q m d = elim d.declares [
       | inl same_q ↦
           (let e : x ≡ i = one_parent t unit p x i part_x (subst (λ y. IsPartOf t unit y i) (same_q ∙ sym same) (part_of t unit order token i q m d)) in
-          let one : nx ≡ m = some_same nx m (sym at_x ∙ ap (slice_get t.nodes) e ∙ d.at) in
+          let one : nx ≡ m = same_Some nx m (sym at_x ∙ ap (slice_get t.nodes) e ∙ d.at) in
           no_external m.kind d.external (ap (λ (y : Node). y.kind) (sym one) ∙ is))
       | inr init ↦
           (let inner = in_init t unit order token i q m d init.0 init.1 in
           let e : x ≡ d.part = one_parent t unit p x d.part part_x (subst (λ y. IsPartOf t unit y d.part) (sym same) inner) in
           let k : Some nx.kind ≡ Some kind.InitDeclarator = ap scripts.kind_if (sym at_x) ∙ ap (scripts.kind_at t.nodes) e ∙ init.0 in
-          let never : kind.Parameter ≡ kind.InitDeclarator = sym is ∙ some_same nx.kind kind.InitDeclarator k in
+          let never : kind.Parameter ≡ kind.InitDeclarator = sym is ∙ same_Some nx.kind kind.InitDeclarator k in
           cc never)
     ]
       where
@@ -382,7 +322,7 @@ module _ (file : List ℕ) (t : Typed) (it : IsUnitOfFile file t) where
             external_same c h = absurd (false≢true h)
 
     -- an identifier that stands for what begins with it is its own
-    alone_here : (j other : ℕ) → IsName j other → bound.first_of it.names (bound.entity_at it.names other) ≡ Some token → own ≡ j
+    alone_here : (j other : ℕ) → IsName file t it j other → bound.first_of it.names (bound.entity_at it.names other) ≡ Some token → own ≡ j
     alone_here j other y e = elim (cases_eq other token) [
       | inl same ↦ one_name own j token own_name (record { node = y.node; at = y.at; is = y.is; first = y.first ∙ same })
       | inr apart ↦
@@ -467,7 +407,7 @@ module _ (file : List ℕ) (t : Typed) (it : IsUnitOfFile file t) where
     -- the identifier has the word of its declarator's type
     pub own_head : is_function declared ≡ false → head (named_type t own) ≡ head (type_at shapes (slice_index_or typing.named p 0))
     own_head unlike =
-        ap head (type_is own own_low) ∙ ap (λ k. head (names.named_by k parsed columns own)) own_kind
+        ap head (type_is file t it own own_low) ∙ ap (λ k. head (names.named_by k parsed columns own)) own_kind
         ∙ of_here (names.is_here own (entities.first_declared parsed columns.names.now entity)) refl
       where
         whole_type : Qualified

@@ -1,6 +1,7 @@
 -- What a parameter of a definition declares is an automatic object of a complete type (C11 6.2.4p5, 6.7.6.3p4, p7, 6.9.1p7).
 use Rattle.std.proofs.Common.{◌≡◌, ℕ, zero, suc, ◌<◌, ◌⊎◌, inl, inr, Bool, true, false, List, [], ◌∷◌, Option, None, Some, length, slice_get, slice_index_or, refl, sym, ap, subst, ◌∙◌, arith, if◌then◌else◌}
 use Rattle.std.proofs.lemmas.Bool.{false≢true, eq-eqb}
+use Rattle.std.proofs.lemmas.Option.{same_Some}
 use Rattle.cr_syntax.specs.declared.ctype.CType.{CType}
 use Rattle.cr_syntax.specs.declared.ctype.CType.TheVariants.{Unknown}
 use Rattle.cr_syntax.specs.declared.node.Kind.{Kind}
@@ -8,7 +9,7 @@ use Rattle.cr_syntax.specs.declared.node.Kind.TheVariants as kind
 use Rattle.cr_syntax.specs.declared.node.Node.{Node}
 use Rattle.cr_scopes_events.specs.Declarators.{declarator_of}
 use Rattle.cr_scopes_events.specs.Scripts as scripts
-use Rattle.cr_scopes_visibility.proofs.ParametersLemmas.Walks.{is_deriving, reaches}
+use Rattle.cr_scopes_visibility.proofs.SightLemmas.Reaching.{is_deriving, reaches}
 use Rattle.cr_check_enclosing.specs.declared.context.Around.{Around}
 use Rattle.cr_check_enclosing.specs.declared.context.Place.{Place}
 use Rattle.cr_check_enclosing.specs.declared.context.Place.TheVariants as place
@@ -19,31 +20,27 @@ use Rattle.cr_check_expressions.specs.declared.known.Declared.{Declared}
 use Rattle.cr_check_expressions.specs.declared.known.Declared.TheVariants.{Object, Unclear}
 use Rattle.cr_check_declarators.specs.Functions.{adjusted_type}
 use Rattle.cr_check_declarators.specs.Declarators.{name_alone, whole_leaf, whole_object}
-use Rattle.cr_check_declarations.specs.declared.tree.Tree.{Tree}
 use Rattle.cr_check_declarations.specs.Before as early
 use Rattle.cr_check_declarations.specs.Named.{listed_by, parameter_nodes}
 use Rattle.cr_check_declarations.specs.Faults.{list_in}
-use Rattle.cr_check_unit.specs.declared.typing.Typing.{Typing}
 use Rattle.cr_check_signatures.specs.Functions.Outlines.{head}
+use Rattle.cr_check_signatures.proofs.FunctionsLemmas.Linked.{is_function}
 use Rattle.cr_typed.specs.declared.typed.Typed.{Typed}
 use Rattle.cr_typed.specs.declared.typed.Duration.{Duration}
 use Rattle.cr_typed.specs.declared.typed.Duration.TheVariants as duration
-use Rattle.cr_typed_columns.specs.declared.checked.CheckedColumns.{CheckedColumns}
 use Rattle.cr_typed_columns.specs.Reading.{kind_of, part_of, entry_of}
 use Rattle.cr_typed_columns.specs.Entities as entities
 use Rattle.cr_typed_columns.specs.Functions as functions
 use Rattle.cr_typed_columns.specs.Names as names
-use Rattle.cr_typed_unit.specs.Typed.{IsTypedBy}
 use Rattle.cr_meaning_declarations.specs.Declared.Files.{IsUnitOfFile}
 use Rattle.cr_meaning_declarations.proofs.DeclaredLemmas.Bodies.{listed_at}
-use Rattle.cr_meaning_types.specs.Known.Shaped.{is_parameter_kind, IsPart, IsShaped}
+use Rattle.cr_meaning_declarations.proofs.DeclaredLemmas.Files.{has_unit}
+use Rattle.cr_meaning_types.specs.Known.Shaped.{is_parameter_kind, IsPart}
 use Rattle.cr_meaning_composites.specs.Parameters.Laws
 use Rattle.cr_meaning_composites.specs.Parameters.Laws.{named_at, IsOwnParameter, HasObject}
-use Rattle.cr_meaning_composites.proofs.ParametersLemmas.Names.{is_function, has_own, own, own_low, whole_of_own, above_p, own_head}
-use Rattle.cr_meaning_composites.proofs.ParametersLemmas.Parameters.{plain as no_function_there, parameter_head, declarator_head, second, definer, function_at_name, parameter_whole}
-
-some_same : {A : Type 0} (x y : A) → Some x ≡ Some y → x ≡ y
-some_same x y e = cc
+use Rattle.cr_meaning_composites.proofs.ParametersLemmas.Names.{has_own, own, own_low, whole_of_own, above_p, own_head}
+use Rattle.cr_meaning_composites.proofs.ParametersLemmas.Parameters.{plain as no_function_there, parameter_head, declarator_head, second, definer, function_at_name, parameter_whole, parameter_place as placed, in_tree}
+use Rattle.cr_meaning_references.proofs.TreesLemmas.Shaped.{shaped}
 
 -- ---- around nodes
 
@@ -57,14 +54,10 @@ unfolding inside
 hands_on kind.FunctionDefinition i a h = absurd (h refl)
 hands_on k i a h = refl
 
-placed : (k : Kind) (i : ℕ) (a : Around) → k ≡ kind.Parameter → (inside k i a).place ≡ place.Parameter
-unfolding inside
-placed k i a e = ap (λ c. (inside c i a).place) e
-
 deriving_apart : (k : Kind) → is_deriving k ≡ true → k ≡ kind.FunctionDefinition → ⊥
 deriving_apart k h e = false≢true (sym (ap is_deriving e) ∙ h)
 
-abbrev is_listing : Kind → Bool
+abbrev pub is_listing : Kind → Bool
 is_listing kind.Parameters = true
 is_listing kind.VariadicParameters = true
 is_listing k = false
@@ -85,7 +78,7 @@ listed_so kind.VariadicParameters parts list j x e = inl (refl, e)
 listed_so k parts list j x e = inr (lone j e)
   where
     lone : (j : ℕ) → slice_get (list ∷ []) j ≡ Some x → list ≡ x
-    lone zero f = some_same list x f
+    lone zero f = same_Some list x f
     lone (suc j) f = absurd (cc f)
 
 -- ---- durations
@@ -121,27 +114,9 @@ whole_alike nodes at (array n t) (plain to d w) e a h = absurd (cc e)
 whole_alike nodes at one (pointer d w u) e a h = refl
 whole_alike nodes at one (array m u) e a h = absurd (cc a)
 
-module _ (file : List ℕ) (t : Typed) (it : IsUnitOfFile file t) (shaped : IsShaped it.checked.by.tree) where
-  abbrev made_by : IsTypedBy file it.unit it.names it.checked.checked t
-  made_by = it.checked.by
-
-  abbrev typing : Typing
-  typing = it.checked.checked.whole.typing
-
-  abbrev tree : Tree
-  tree = made_by.tree
-
-  abbrev columns : CheckedColumns
-  columns = made_by.columns
-
-  nodes_are : it.unit.nodes ≡ t.nodes
-  nodes_are = sym made_by.elaborated.nodes_are
-
-  tree_nodes : tree.nodes.now ≡ t.nodes
-  tree_nodes = made_by.is.whole.tree.nodes ∙ nodes_are
-
-  in_tree : (i : ℕ) (n : Node) → slice_get t.nodes i ≡ Some n → slice_get tree.nodes.now i ≡ Some n
-  in_tree i n at = ap (λ ns. slice_get ns i) tree_nodes ∙ at
+module _ (file : List ℕ) (t : Typed) (it : IsUnitOfFile file t) where
+  open it use {made_by, typing, tree, columns}
+  open has_unit file t it use {nodes_are, tree_nodes}
 
   in_unit : (i : ℕ) (n : Node) → slice_get tree.nodes.now i ≡ Some n → slice_get t.nodes i ≡ Some n
   in_unit i n at = ap (λ ns. slice_get ns i) (sym tree_nodes) ∙ at
@@ -173,13 +148,13 @@ module _ (file : List ℕ) (t : Typed) (it : IsUnitOfFile file t) (shaped : IsSh
 
     goes : (a b : ℕ) (m : Node) → slice_get t.nodes a ≡ Some m → is_deriving m.kind ≡ true → slice_get m.parts 0 ≡ Some b → IsInside a → IsInside b
     goes a b m at derives e h =
-        let part = shaped.parts a m (in_tree a m at) 0 b e in
+        let part = (shaped file t it).parts a m (in_tree file t it a m at) 0 b e in
         let one = part.below in
         let two = h.0 in
         (omega (arith, one, two), function_around a b m 0 part (deriving_apart m.kind derives) ∙ h.1)
 
     inside_q : IsInside q
-    inside_q = let part = definer file t it shaped o.name d q o.own o.defines o.body in (part.below, ap (λ (y : Around). y.function) part.around ∙ begins o.own.kind d (around d) o.body)
+    inside_q = let part = definer file t it o.name d q o.own o.defines o.body in (part.below, ap (λ (y : Around). y.function) part.around ∙ begins o.own.kind d (around d) o.body)
 
     found : (m : Node) × ((slice_get t.nodes l ≡ Some m) × ((m.kind ≡ kind.FunctionDeclarator) × IsInside l))
     found = (reaches t.nodes IsInside goes q inside_q).next l o.next
@@ -201,7 +176,7 @@ module _ (file : List ℕ) (t : Typed) (it : IsUnitOfFile file t) (shaped : IsSh
     is_listed = by (slice_get list_node.parts 1) refl (ap (λ y. slice_get (parameter_nodes t.nodes (slice_get (early.parts_if y) 1)) o.place) (sym found.1.0) ∙ o.listed)
       where
         at_l : slice_get tree.nodes.now l ≡ Some list_node
-        at_l = in_tree l list_node found.1.0
+        at_l = in_tree file t it l list_node found.1.0
 
         low_l : l < d
         low_l = found.1.1.1.0
@@ -219,7 +194,7 @@ module _ (file : List ℕ) (t : Typed) (it : IsUnitOfFile file t) (shaped : IsSh
         -- among others
         among : (y : ℕ) → (part : IsPart tree l list_node 1 y) → is_listing part.own.kind ≡ true → slice_get part.own.parts o.place ≡ Some x → IsListed
         among y part lists e =
-            let inner = shaped.parts y part.own part.at o.place x e in
+            let inner = (shaped file t it).parts y part.own part.at o.place x e in
             let one = part.below in
             let two = inner.below in
             let three = low_l in
@@ -237,19 +212,19 @@ module _ (file : List ℕ) (t : Typed) (it : IsUnitOfFile file t) (shaped : IsSh
         by None f e = absurd (cc e)
         by (Some y) f e = elim (listed_so part.own.kind part.own.parts y o.place x (ap (λ z. slice_get (listed_by (early.kind_if z) (early.parts_if z) y) o.place) (sym (in_unit y part.own part.at)) ∙ e)) [
           | inl both ↦ among y part both.0 both.1
-          | inr same ↦ alone (shaped.parts l list_node at_l 1 x (f ∙ ap Some same))
+          | inr same ↦ alone ((shaped file t it).parts l list_node at_l 1 x (f ∙ ap Some same))
         ]
           where
             part : IsPart tree l list_node 1 y
-            part = shaped.parts l list_node at_l 1 y f
+            part = (shaped file t it).parts l list_node at_l 1 y f
 
     -- ---- its declarator
 
     here : slice_get tree.nodes.now x ≡ Some o.parameter
-    here = in_tree x o.parameter o.at
+    here = in_tree file t it x o.parameter o.at
 
     part_p : IsPart tree x o.parameter 1 p
-    part_p = shaped.parts x o.parameter here 1 p o.second
+    part_p = (shaped file t it).parts x o.parameter here 1 p o.second
 
     at_p : slice_get t.nodes p ≡ Some part_p.own
     at_p = in_unit p part_p.own part_p.at
@@ -275,10 +250,10 @@ module _ (file : List ℕ) (t : Typed) (it : IsUnitOfFile file t) (shaped : IsSh
     function_d =
         ap (λ c. (entry_of columns.declarators.now name_alone c).function) part_is
         ∙ ap (λ column. (slice_index_or column q name_alone).function) made_by.are.declarators
-        ∙ function_at_name file t it shaped o.name d q o.own o.defines o.body l o.next
+        ∙ function_at_name file t it o.name d q o.own o.defines o.body l o.next
       where
         part_is : part_of it.unit.nodes (Some d) 1 ≡ Some q
-        part_is = ap (λ ns. slice_get (scripts.parts_at ns d) 1) nodes_are ∙ ap (λ y. slice_get (scripts.parts_if y) 1) o.defines.at ∙ second file t it shaped o.name d q o.own o.defines o.body
+        part_is = ap (λ ns. slice_get (scripts.parts_at ns d) 1) nodes_are ∙ ap (λ y. slice_get (scripts.parts_if y) 1) o.defines.at ∙ second file t it o.name d q o.own o.defines o.body
 
     own_list : names.is_own it.unit.nodes columns (Some p) (Some d) ≡ true
     own_list =
@@ -317,14 +292,14 @@ module _ (file : List ℕ) (t : Typed) (it : IsUnitOfFile file t) (shaped : IsSh
     unlike = ap is_function o.object
 
     adjusted : adjusted_type (named_at file t it p) ≡ named_at file t it p
-    adjusted = head_adjusts (named_at file t it p) _ (declarator_head file t it shaped x p token o.parameter here (ap is_parameter_kind o.is) o.second name_tree)
+    adjusted = head_adjusts (named_at file t it p) _ (declarator_head file t it x p token o.parameter here (ap is_parameter_kind o.is) o.second name_tree)
 
     complete : whole_object (is_complete_at t.nodes d) (named_at file t it p) ≡ true
     complete =
-        whole_alike t.nodes d (named_at file t it x) (named_at file t it p) (parameter_head file t it shaped x p token o.parameter here (ap is_parameter_kind o.is) o.second name_tree) adjusted
+        whole_alike t.nodes d (named_at file t it x) (named_at file t it p) (parameter_head file t it x p token o.parameter here (ap is_parameter_kind o.is) o.second name_tree) adjusted
         (subst (λ ns. whole_object (is_complete_at ns d) (named_at file t it x) ≡ true) tree_nodes
-        (parameter_whole file t it shaped o.name d q o.own o.defines o.body l o.next o.place x p in_list (ap (λ y. slice_get (early.parts_if y) 1) here ∙ o.second) is_listed.low low_p
-        (no_function_there file t it shaped x p token o.parameter here (ap is_parameter_kind o.is) o.second name_tree)))
+        (parameter_whole file t it o.name d q o.own o.defines o.body l o.next o.place x p in_list (ap (λ y. slice_get (early.parts_if y) 1) here ∙ o.second) is_listed.low low_p
+        (no_function_there file t it x p token o.parameter here (ap is_parameter_kind o.is) o.second name_tree)))
       where
         low_p : p < d
         low_p = let one = part_p.below in let two = is_listed.low in omega (arith, one, two)
@@ -348,4 +323,4 @@ module _ (file : List ℕ) (t : Typed) (it : IsUnitOfFile file t) (shaped : IsSh
         }
 
 pub objects : Laws.ParametersAreObjects
-objects file t it shaped d x p token o = its_object file t it shaped d x p token o
+objects file t it d x p token o = its_object file t it d x p token o

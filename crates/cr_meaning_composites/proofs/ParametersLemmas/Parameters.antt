@@ -1,5 +1,5 @@
 -- A definition enters an object for each parameter in the list of its function, with the word of its type (C11 6.9.1p7).
-use Rattle.std.proofs.Common.{◌≡◌, ℕ, ℤ, zero, suc, ◌+◌, ◌-◌, ◌<◌, ◌&&◌, ◌||◌, ◌⊎◌, inl, inr, Bool, true, false, not, List, [], ◌∷◌, ◌++◌, Option, None, Some, length, map, option_to_list, slice_get, slice_index_or, refl, sym, ap, subst, ◌∙◌, arith, if◌then◌else◌}
+use Rattle.std.proofs.Common.{◌≡◌, ℕ, ℤ, zero, suc, ◌+◌, ◌-◌, ◌<◌, ◌&&◌, ◌||◌, inl, inr, Bool, true, false, not, List, [], ◌∷◌, ◌++◌, Option, None, Some, length, map, option_to_list, slice_get, slice_index_or, refl, sym, ap, subst, ◌∙◌, arith, if◌then◌else◌}
 use Rattle.std.specs.List.{flat_map, list_any}
 use Rattle.std.specs.Option.{is_some}
 use Rattle.std.proofs.lemmas.Bool.{cases_lt, false≢true, or_parts, not-false, not-true}
@@ -22,7 +22,6 @@ use Rattle.cr_check_enclosing.specs.declared.context.Around.{Around}
 use Rattle.cr_check_enclosing.specs.declared.context.Place.{Place}
 use Rattle.cr_check_enclosing.specs.declared.context.Place.TheVariants as place
 use Rattle.cr_check_enclosing.specs.Around.{outermost, inside}
-use Rattle.cr_check_types.specs.declared.shape.Shape.{Shape}
 use Rattle.cr_check_types.specs.Types.{Qualified, type_at}
 use Rattle.cr_check_types.specs.Relations.{is_complete_at}
 use Rattle.cr_check_expressions.specs.declared.known.Declared.{Declared}
@@ -42,35 +41,34 @@ use Rattle.cr_check_declarations.specs.Before.{Before, kind_in, type_in, specifi
 use Rattle.cr_check_declarations.specs.Named as declarations
 use Rattle.cr_check_declarations.specs.Named.{is_declarator, is_initialised, is_declaration, is_parameter, is_typedef, class_of, type_by, named_by, value_by, ordinary_by, ordinary_of, names_ordinary, specifiers_in, constant_by, declared_by, declares_name, declaration_of}
 use Rattle.cr_check_declarations.specs.Faults.{Has, has_at, fault_at, token_if, place_of, name_or, name_in, list_in, name_token, is_nameless, is_specifier, parameter_name, parameter_fault, parameter_faults, definition_faults, declarator_faults, whole_faults, faults_in}
-use Rattle.cr_check_unit.specs.declared.typing.Typing.{Typing}
 use Rattle.cr_check_unit.specs.Typing.{cut, entry_at, before_in}
 use Rattle.cr_check_unit.specs.Breaks.{IsBroken}
 use Rattle.cr_check_signatures.specs.Functions.Outlines.{head}
+use Rattle.cr_check_signatures.proofs.FunctionsLemmas.Linked.{is_function}
 use Rattle.cr_typed.specs.declared.typed.Typed.{Typed}
-use Rattle.cr_typed_columns.specs.declared.checked.CheckedColumns.{CheckedColumns}
 use Rattle.cr_typed_columns.specs.Reading.{Parsed, parsed_of, part_of, entry_of}
 use Rattle.cr_typed_columns.specs.Entities as entities
 use Rattle.cr_typed_columns.specs.Functions as functions
-use Rattle.cr_typed_unit.specs.Typed.{IsTypedBy}
 use Rattle.cr_meaning_typing.specs.Typed.Laws.{HoldsAll}
 use Rattle.cr_meaning_typing.proofs.TypedLemmas.Worth.{unbroken}
 use Rattle.cr_meaning_operations.specs.Shapes.{named_type}
 use Rattle.cr_meaning_operations.specs.Operations.{kind_if, kind_at}
-use Rattle.cr_meaning_declarations.specs.Units.Owned.{AreOfUnit}
 use Rattle.cr_meaning_declarations.proofs.UnitsLemmas.Rows.{clear_side, clear_laid, clear_at}
 use Rattle.cr_meaning_declarations.proofs.UnitsLemmas.Handing.{laid_at, parts_below}
 use Rattle.cr_meaning_declarations.specs.Declared.Files.{IsUnitOfFile}
-use Rattle.cr_meaning_declarations.proofs.DeclaredLemmas.Nodes.{of_unit}
 use Rattle.cr_meaning_declarations.proofs.DeclaredLemmas.Bodies.{listed_at}
-use Rattle.cr_meaning_types.specs.Known.Shaped.{is_parameter_kind, fits, IsPart, IsShaped}
+use Rattle.cr_meaning_declarations.proofs.DeclaredLemmas.Files.{has_unit}
+use Rattle.cr_meaning_types.specs.Known.Shaped.{is_parameter_kind, fits, IsPart}
 use Rattle.cr_meaning_types.proofs.KnownLemmas.Naming.{both, declaration_here, ruled, holds_all, declarator_early, named_early}
 use Rattle.cr_meaning_types.proofs.KnownLemmas.Declaring.{declarator_holds}
+use Rattle.cr_meaning_types.proofs.KnownLemmas.Listing.{specified_parameter as parameter_kind}
 use Rattle.cr_meaning_composites.specs.Parameters.Laws
 use Rattle.cr_meaning_composites.specs.Parameters.Laws.{AreParameters}
 use Rattle.cr_meaning_composites.proofs.ParametersLemmas.Heads.{head_adjusted, adjusted_twice, named_head}
 use Rattle.cr_meaning_composites.proofs.ParametersLemmas.Lists as lists
 use Rattle.cr_meaning_composites.proofs.ParametersLemmas.Lists.{IsList, good}
-use Rattle.cr_meaning_composites.proofs.ParametersLemmas.Names.{is_function, own, own_kind, parameter_is, own_head}
+use Rattle.cr_meaning_composites.proofs.ParametersLemmas.Names.{own, own_kind, parameter_is, own_head}
+use Rattle.cr_meaning_references.proofs.TreesLemmas.Shaped.{shaped}
 
 -- ---- declarators with a name
 
@@ -183,10 +181,6 @@ specifiers_clear kind.EnumContent h = refl
 specifiers_clear kind.EnumTag h = refl
 specifiers_clear k h = absurd (false≢true h)
 
-parameter_kind : (k : Kind) → is_parameter_kind k ≡ true → (k ≡ kind.Parameter) ⊎ (is_specifier k ≡ true)
-parameter_kind kind.Parameter h = inl refl
-parameter_kind k h = inr h
-
 -- ---- what a parameter declares
 
 of_value : (nodes : List Node) (storage : Option Class) (function : Option ℕ) (row : ℕ) → function ≡ None → is_function (value_by nodes storage function row) ≡ false
@@ -241,7 +235,7 @@ plain_parameter has at typedef result is e = by has.function refl (ap (λ p. fun
         sym (ap (λ o. if is_some o then has.misplaced || (true || not (may_return result)) else has.misplaced) q) ∙ f in
         absurd (false≢true (sym (or_parts has.misplaced (true || not (may_return result)) all).1))
 
-parameter_place : (k : Kind) (i : ℕ) (a : Around) → k ≡ kind.Parameter → (inside k i a).place ≡ place.Parameter
+pub parameter_place : (k : Kind) (i : ℕ) (a : Around) → k ≡ kind.Parameter → (inside k i a).place ≡ place.Parameter
 unfolding inside
 parameter_place k i a e = ap (λ c. (inside c i a).place) e
 
@@ -274,38 +268,17 @@ same_lists nodes (Some list) = by (slice_get nodes list)
     by None = refl
     by (Some n) = by_kind n.kind n.parts
 
-module _ (file : List ℕ) (t : Typed) (it : IsUnitOfFile file t) (shaped : IsShaped it.checked.by.tree) where
-  unit : AreOfUnit t
-  unit = of_unit file t it
-
-  abbrev made_by : IsTypedBy file it.unit it.names it.checked.checked t
-  made_by = it.checked.by
-
-  abbrev typing : Typing
-  typing = it.checked.checked.whole.typing
-
-  abbrev shapes : List Shape
-  shapes = it.checked.checked.table
-
-  abbrev texts : List (List ℕ)
-  texts = it.checked.checked.texts
-
-  abbrev tree : Tree
-  tree = made_by.tree
-
-  abbrev columns : CheckedColumns
-  columns = made_by.columns
+module _ (file : List ℕ) (t : Typed) (it : IsUnitOfFile file t) where
+  open it use {made_by, typing, shapes, texts, tree, columns}
+  open has_unit file t it use {unit, tree_nodes}
 
   abbrev parsed : Parsed
   parsed = parsed_of it.unit
 
-  tree_nodes : tree.nodes.now ≡ t.nodes
-  tree_nodes = made_by.is.whole.tree.nodes ∙ sym made_by.elaborated.nodes_are
-
   holds : (b : Break) → IsBroken tree texts shapes typing b → ⊥
   holds b broken = made_by.sound.constraints b (inl broken)
 
-  in_tree : (i : ℕ) (n : Node) → slice_get t.nodes i ≡ Some n → slice_get tree.nodes.now i ≡ Some n
+  pub in_tree : (i : ℕ) (n : Node) → slice_get t.nodes i ≡ Some n → slice_get tree.nodes.now i ≡ Some n
   in_tree i n at = ap (λ ns. slice_get ns i) tree_nodes ∙ at
 
   in_unit : (i : ℕ) (n : Node) → slice_get tree.nodes.now i ≡ Some n → slice_get t.nodes i ≡ Some n
@@ -341,7 +314,7 @@ module _ (file : List ℕ) (t : Typed) (it : IsUnitOfFile file t) (shaped : IsSh
   module _ (x p token : ℕ) (nx : Node) (at_x : slice_get tree.nodes.now x ≡ Some nx) (parameter : is_parameter_kind nx.kind ≡ true) (second : slice_get nx.parts 1 ≡ Some p)
       (name : (declarator_of tree.nodes.now p).name ≡ Some token) where
     part : IsPart tree x nx 1 p
-    part = shaped.parts x nx at_x 1 p second
+    part = (shaped file t it).parts x nx at_x 1 p second
 
     names_it : is_naming part.own.kind ≡ true
     names_it = naming tree.nodes.now p token part.own part.at name
@@ -455,7 +428,7 @@ module _ (file : List ℕ) (t : Typed) (it : IsUnitOfFile file t) (shaped : IsSh
     first_part = subst (λ x. slice_get m.parts (suc x) ≡ Some declares.part) (declares.first is_definition) declares.is
 
     part_is : IsPart tree d m 1 declares.part
-    part_is = shaped.parts d m here 1 declares.part first_part
+    part_is = (shaped file t it).parts d m here 1 declares.part first_part
 
     same : declares.part ≡ q
     same = elim declares.declares [
@@ -470,7 +443,7 @@ module _ (file : List ℕ) (t : Typed) (it : IsUnitOfFile file t) (shaped : IsSh
     second = first_part ∙ ap Some same
 
     pub definer : IsPart tree d m 1 q
-    definer = shaped.parts d m here 1 q second
+    definer = (shaped file t it).parts d m here 1 q second
 
     name : (declarator_of tree.nodes.now q).name ≡ Some token
     name = ap (λ ns. (declarator_of ns q).name) tree_nodes ∙ declares.name
@@ -514,8 +487,8 @@ module _ (file : List ℕ) (t : Typed) (it : IsUnitOfFile file t) (shaped : IsSh
         (λ x among. held x (inr (inr (inr among))))
 
     module _ (l : ℕ) (own_function : (has q).function ≡ Some l) where
-      own_list : IsList tree texts shapes typing made_by.is.whole.typing holds shaped q l
-      own_list = good tree texts shapes typing made_by.is.whole.typing holds shaped q token l name put_well own_function
+      own_list : IsList tree texts shapes typing made_by.is.whole.typing holds (shaped file t it) q l
+      own_list = good tree texts shapes typing made_by.is.whole.typing holds (shaped file t it) q token l name put_well own_function
 
       abbrev parameters : List ℕ
       parameters = declarations.parameter_nodes tree.nodes.now (list_in tree.nodes.now (Some l))
@@ -529,8 +502,8 @@ module _ (file : List ℕ) (t : Typed) (it : IsUnitOfFile file t) (shaped : IsSh
       all_entered : (k x : ℕ) → slice_get parameters k ≡ Some x → IsEntered x
       all_entered k x e = by (slice_get p.node.parts 1) refl (sym (ap (λ o. is_some (name_in tree.nodes.now (slice_get (early.parts_if o) 1))) p.at) ∙ has_name)
         where
-          p : lists.IsParameter tree texts shapes typing made_by.is.whole.typing holds shaped l x
-          p = lists.listed_at tree texts shapes typing made_by.is.whole.typing holds shaped l own_list.node own_list.at own_list.is k x
+          p : lists.IsParameter tree texts shapes typing made_by.is.whole.typing holds (shaped file t it) l x
+          p = lists.listed_at tree texts shapes typing made_by.is.whole.typing holds (shaped file t it) l own_list.node own_list.at own_list.is k x
               (ap (λ o. slice_get (declarations.parameter_nodes tree.nodes.now o) k) (sym list_part) ∙ e)
 
           has_name : is_some (parameter_name tree.nodes.now x) ≡ true
@@ -619,9 +592,9 @@ module _ (file : List ℕ) (t : Typed) (it : IsUnitOfFile file t) (shaped : IsSh
             ∙ ap (λ (y : Declarator). not (is_some y.function)) (declarator_early tree texts shapes typing made_by.is.whole.typing holds d m here p p_low)
             ∙ ap (λ o. not (is_some o)) unlike
 
-pub function_next : (file : List ℕ) (t : Typed) (it : IsUnitOfFile file t) → IsShaped it.checked.by.tree → (token d q : ℕ) (m : Node) → IsDeclarer t.nodes token d q m → m.kind ≡ kind.FunctionDefinition
+pub function_next : (file : List ℕ) (t : Typed) (it : IsUnitOfFile file t) → (token d q : ℕ) (m : Node) → IsDeclarer t.nodes token d q m → m.kind ≡ kind.FunctionDefinition
     → (l : ℕ) × ((declarator_of t.nodes q).next ≡ derivation.Function l)
-function_next file t it shaped token d q m declares is = next file t it shaped token d q m declares is
+function_next file t it token d q m declares is = next file t it token d q m declares is
 
 pub own_types : Laws.ParametersHaveTheirTypes
-own_types file t it shaped token d declarator m declares is = have file t it shaped token d declarator m declares is
+own_types file t it token d declarator m declares is = have file t it token d declarator m declares is

@@ -10,8 +10,6 @@ use Rattle.cr_check_unit.specs.declared.typing.Typing.{Typing}
 use Rattle.cr_check_signatures.specs.Functions.Linked.{now_at, IsFunction, Follows}
 use Rattle.cr_check_signatures.specs.Functions.Outlines.{outline}
 use Rattle.cr_typed.specs.declared.typed.Typed.{Typed}
-use Rattle.cr_meaning_types.specs.Known.Shaped.{IsShaped}
-use Rattle.cr_meaning_types.specs.Known.Sighted.{AreSighted}
 use Rattle.cr_meaning_declarations.specs.Declared.Files.{IsUnitOfFile}
 use Rattle.cr_meaning_declarations.specs.Linked.Laws.{DeclaresValue}
 
@@ -21,7 +19,7 @@ DeclaresFunction t p = (row : ℕ) × ((more : Bool) × (slice_index_or t.declar
 
 -- what a declaration declares as an object or a function has a known type
 abbrev pub ValuesAreKnown : Type 0
-ValuesAreKnown = (file : List ℕ) (t : Typed) (it : IsUnitOfFile file t) → IsShaped it.checked.by.tree → AreSighted it.checked.by.tree
+ValuesAreKnown = (file : List ℕ) (t : Typed) (it : IsUnitOfFile file t)
     → (token : ℕ) (v : DeclaresValue t.nodes token) → is_known (now_at it.checked.checked.table it.checked.checked.whole.typing v.declarator) ≡ true
 
 -- a declaration that is of the entity of a function and before one of its declarations
@@ -33,24 +31,24 @@ pub record IsBehind (file : List ℕ) (t : Typed) (it : IsUnitOfFile file t) (q 
 
 -- what declares a function is behind all earlier declarations of its entity, and they declare functions too (6.2.2p2, K9)
 abbrev pub DeclarationsFollow : Type 0
-DeclarationsFollow = (file : List ℕ) (t : Typed) (it : IsUnitOfFile file t) → IsShaped it.checked.by.tree → AreSighted it.checked.by.tree
+DeclarationsFollow = (file : List ℕ) (t : Typed) (it : IsUnitOfFile file t)
     → (one other k i q j r : ℕ) (m n : Node) → IsDeclarer t.nodes one i q m → IsDeclarer t.nodes other j r n → declared_entity it.names one ≡ Some k → declared_entity it.names other ≡ Some k
     → DeclaresFunction it.checked.checked.whole.typing q → other < one → IsBehind file t it q r
 
 -- a definition declares a function (K2, K10)
 abbrev pub DefinitionsDeclareFunctions : Type 0
-DefinitionsDeclareFunctions = (file : List ℕ) (t : Typed) (it : IsUnitOfFile file t) → IsShaped it.checked.by.tree
+DefinitionsDeclareFunctions = (file : List ℕ) (t : Typed) (it : IsUnitOfFile file t)
     → (token i q : ℕ) (m : Node) → IsDeclarer t.nodes token i q m → m.kind ≡ kind.FunctionDefinition → DeclaresFunction it.checked.checked.whole.typing q
 
 -- so of the declarations of an entity one at most is a definition (6.9p3, p5, K10)
 abbrev pub FunctionsHaveOneBody : Type 0
-FunctionsHaveOneBody = (file : List ℕ) (t : Typed) (it : IsUnitOfFile file t) → IsShaped it.checked.by.tree → AreSighted it.checked.by.tree
+FunctionsHaveOneBody = (file : List ℕ) (t : Typed) (it : IsUnitOfFile file t)
     → (one other k i q j r : ℕ) (m n : Node) → IsDeclarer t.nodes one i q m → IsDeclarer t.nodes other j r n → declared_entity it.names one ≡ Some k → declared_entity it.names other ≡ Some k
     → m.kind ≡ kind.FunctionDefinition → n.kind ≡ kind.FunctionDefinition → one ≡ other
 
 -- and any two have one outline (6.2.7p2, K9)
 abbrev pub FunctionsAreOfOneOutline : Type 0
-FunctionsAreOfOneOutline = (file : List ℕ) (t : Typed) (it : IsUnitOfFile file t) → IsShaped it.checked.by.tree → AreSighted it.checked.by.tree
+FunctionsAreOfOneOutline = (file : List ℕ) (t : Typed) (it : IsUnitOfFile file t)
     → (one other k i q j r : ℕ) (m n : Node) → IsDeclarer t.nodes one i q m → IsDeclarer t.nodes other j r n → declared_entity it.names one ≡ Some k → declared_entity it.names other ≡ Some k
     → DeclaresFunction it.checked.checked.whole.typing q → DeclaresFunction it.checked.checked.whole.typing r
     → (one ≡ other → ⊥) → outline (now_at it.checked.checked.table it.checked.checked.whole.typing q) ≡ outline (now_at it.checked.checked.table it.checked.checked.whole.typing r)

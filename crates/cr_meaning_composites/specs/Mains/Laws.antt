@@ -10,13 +10,11 @@ use Rattle.cr_typed.specs.declared.typed.Typed.{Typed}
 use Rattle.cr_meaning.specs.declared.run.Limits.{Limits}
 use Rattle.cr_meaning_soundness.specs.Programs.{AreMainParameters}
 use Rattle.cr_meaning_operations.specs.Operations.{part_at, parameter_of, strings_of, program_of}
-use Rattle.cr_meaning_types.specs.Known.Shaped.{IsShaped}
-use Rattle.cr_meaning_types.specs.Known.Sighted.{AreSighted}
 use Rattle.cr_meaning_declarations.specs.Declared.Files.{IsUnitOfFile}
 
 -- two external declarations that define functions of one name are one
 abbrev pub NamesAreDefinedOnce : Type 0
-NamesAreDefinedOnce = (file : List ℕ) (t : Typed) (it : IsUnitOfFile file t) → IsShaped it.checked.by.tree → AreSighted it.checked.by.tree
+NamesAreDefinedOnce = (file : List ℕ) (t : Typed) (it : IsUnitOfFile file t)
     → (one other i q j r k l : ℕ) (m n : Node) → IsDeclarer t.nodes one i q m → IsDeclarer t.nodes other j r n → m.kind ≡ kind.FunctionDefinition → n.kind ≡ kind.FunctionDefinition
     → slice_get t.items k ≡ Some i → slice_get t.items l ≡ Some j → spelling_of file it.unit.tokens.list.items one ≡ spelling_of file it.unit.tokens.list.items other → i ≡ j
 
@@ -27,5 +25,5 @@ pub record IsMain (file : List ℕ) (t : Typed) (it : IsUnitOfFile file t) (limi
 
 -- main gives an int, and has no parameters, or an int and a pointer, where it is an external declaration, as all definitions are
 abbrev pub MainsAreDeclaredSo : Type 0
-MainsAreDeclaredSo = (file : List ℕ) (t : Typed) (it : IsUnitOfFile file t) (limits : Limits) → IsShaped it.checked.by.tree → AreSighted it.checked.by.tree
+MainsAreDeclaredSo = (file : List ℕ) (t : Typed) (it : IsUnitOfFile file t) (limits : Limits)
     → (k : ℕ) → slice_get t.items k ≡ Some t.main → IsMain file t it limits

@@ -11,8 +11,6 @@ use Rattle.cr_check_signatures.specs.Functions.Linked.{has_linkage, does_at}
 use Rattle.cr_typed.specs.declared.typed.Typed.{Typed}
 use Rattle.cr_typed.specs.declared.typed.Duration.TheVariants as duration
 use Rattle.cr_meaning_operations.specs.Operations.{entity_of, is_static_by}
-use Rattle.cr_meaning_types.specs.Known.Shaped.{IsShaped}
-use Rattle.cr_meaning_types.specs.Known.Sighted.{AreSighted}
 use Rattle.cr_meaning_declarations.specs.Declared.Files.{IsUnitOfFile}
 
 -- a declarator declares an object, by the columns of a check
@@ -26,17 +24,17 @@ pub record HasLinkage (file : List ℕ) (t : Typed) (it : IsUnitOfFile file t) (
 
 -- an object whose entity another declaration declares too has linkage, and so static duration (6.2.2p6, 6.2.4p3, 6.7p3)
 abbrev pub SharedObjectsAreLinked : Type 0
-SharedObjectsAreLinked = (file : List ℕ) (t : Typed) (it : IsUnitOfFile file t) → IsShaped it.checked.by.tree
+SharedObjectsAreLinked = (file : List ℕ) (t : Typed) (it : IsUnitOfFile file t)
     → (one other k i q : ℕ) (m : Node) → IsDeclarer t.nodes one i q m → declared_entity it.names one ≡ Some k → declared_entity it.names other ≡ Some k → (other ≡ one → ⊥)
     → DeclaresObject it.checked.checked.whole.typing q → HasLinkage file t it q
 
 -- what declares an object is behind declarations of objects alone (6.2.2p2, K9)
 abbrev pub ObjectsFollowObjects : Type 0
-ObjectsFollowObjects = (file : List ℕ) (t : Typed) (it : IsUnitOfFile file t) → IsShaped it.checked.by.tree → AreSighted it.checked.by.tree
+ObjectsFollowObjects = (file : List ℕ) (t : Typed) (it : IsUnitOfFile file t)
     → (one other k i q j r : ℕ) (m n : Node) → IsDeclarer t.nodes one i q m → IsDeclarer t.nodes other j r n → declared_entity it.names one ≡ Some k → declared_entity it.names other ≡ Some k
     → DeclaresObject it.checked.checked.whole.typing q → other < one → DeclaresObject it.checked.checked.whole.typing r
 
 -- what has static duration by one of its declarations has it by the first (6.2.4p3)
 abbrev pub FirstsAreStatic : Type 0
-FirstsAreStatic = (file : List ℕ) (t : Typed) (it : IsUnitOfFile file t) → IsShaped it.checked.by.tree → AreSighted it.checked.by.tree
+FirstsAreStatic = (file : List ℕ) (t : Typed) (it : IsUnitOfFile file t)
     → (node : ℕ) → is_static_by (slice_index_or t.durations node duration.NoObject) ≡ true → is_static_by (slice_index_or t.durations (entity_of t node) duration.NoObject) ≡ true

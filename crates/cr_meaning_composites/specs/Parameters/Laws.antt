@@ -17,7 +17,6 @@ use Rattle.cr_typed.specs.declared.typed.Typed.{Typed}
 use Rattle.cr_typed.specs.declared.typed.Duration.TheVariants as duration
 use Rattle.cr_meaning_operations.specs.Shapes.{named_type}
 use Rattle.cr_meaning_operations.specs.Operations.{kind_at}
-use Rattle.cr_meaning_types.specs.Known.Shaped.{IsShaped}
 use Rattle.cr_meaning_declarations.specs.Declared.Files.{IsUnitOfFile}
 
 -- the nodes that a run enters for parameters of these types: identifiers, as many, and each with the word of its type
@@ -27,7 +26,7 @@ pub record AreParameters (t : Typed) (types : List Qualified) (objects : List �
 
 -- the parameters of a definition are those of the type that its declarator gives the function
 abbrev pub ParametersHaveTheirTypes : Type 0
-ParametersHaveTheirTypes = (file : List ℕ) (t : Typed) (it : IsUnitOfFile file t) → IsShaped it.checked.by.tree → (token d declarator : ℕ) (m : Node) → IsDeclarer t.nodes token d declarator m
+ParametersHaveTheirTypes = (file : List ℕ) (t : Typed) (it : IsUnitOfFile file t) → (token d declarator : ℕ) (m : Node) → IsDeclarer t.nodes token d declarator m
     → m.kind ≡ kind.FunctionDefinition → AreParameters t (map (type_at it.checked.checked.table) (slice_index_or it.checked.checked.whole.typing.parameters declarator [])) (slice_index_or t.parameters d [])
 
 -- ---- one parameter
@@ -74,4 +73,4 @@ pub record HasObject (file : List ℕ) (t : Typed) (it : IsUnitOfFile file t) (d
 
 -- each parameter of a definition is an object (6.9.1p7, p9)
 abbrev pub ParametersAreObjects : Type 0
-ParametersAreObjects = (file : List ℕ) (t : Typed) (it : IsUnitOfFile file t) → IsShaped it.checked.by.tree → (d x p token : ℕ) → IsOwnParameter file t it d x p token → HasObject file t it d p token
+ParametersAreObjects = (file : List ℕ) (t : Typed) (it : IsUnitOfFile file t) → (d x p token : ℕ) → IsOwnParameter file t it d x p token → HasObject file t it d p token

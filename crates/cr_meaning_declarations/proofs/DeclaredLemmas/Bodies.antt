@@ -25,12 +25,10 @@ use Rattle.cr_check_types.specs.Types.{Qualified, plain, unknown, type_at}
 use Rattle.cr_check_expressions.specs.declared.known.Declared.{Declared}
 use Rattle.cr_check_expressions.specs.declared.known.Declared.TheVariants.{Object, Function, Enumerator, TypeName, Unclear}
 use Rattle.cr_typed.specs.declared.typed.Typed.{Typed}
-use Rattle.cr_typed_columns.specs.declared.checked.CheckedColumns.{CheckedColumns}
 use Rattle.cr_typed_columns.specs.Reading.{Parsed, parsed_of, part_of, entry_of}
 use Rattle.cr_typed_columns.specs.Rows.{listed}
 use Rattle.cr_typed_columns.specs.Entities as entities
 use Rattle.cr_typed_columns.specs.Names as names
-use Rattle.cr_typed_unit.specs.Typed.{IsTypedBy}
 use Rattle.cr_meaning.specs.declared.op.Callee.{Callee}
 use Rattle.cr_meaning.specs.declared.op.Callee.TheVariants as callee
 use Rattle.cr_meaning.specs.declared.op.Parameter.{Parameter}
@@ -39,9 +37,9 @@ use Rattle.cr_meaning_operations.specs.Operations.{kind_if, kind_at, parts_if, p
 use Rattle.cr_meaning_declarations.specs.Units.Owned.{AreOfUnit, is_owner, IsBody, AreBodies}
 use Rattle.cr_meaning_declarations.proofs.UnitsLemmas.Handing.{laid_at, parts_below, no_owners}
 use Rattle.cr_meaning_declarations.specs.Declared.Files.{IsUnitOfFile}
-use Rattle.cr_meaning_declarations.proofs.DeclaredLemmas.Nodes.{of_unit}
 use Rattle.cr_meaning_declarations.proofs.NamesLemmas.First.{first_leaf}
 use Rattle.cr_meaning_declarations.proofs.DeclaredLemmas.Free.{IsFree, IsNodeFree, all_free}
+use Rattle.cr_meaning_declarations.proofs.DeclaredLemmas.Files.{has_unit}
 
 -- ---- columns
 
@@ -199,25 +197,11 @@ module _ (t : Typed) (unit : AreOfUnit t) (order : AreListed t.nodes 0 t.items (
 -- ---- of a file
 
 module _ (file : List ℕ) (t : Typed) (it : IsUnitOfFile file t) where
-  unit : AreOfUnit t
-  unit = of_unit file t it
-
-  abbrev made_by : IsTypedBy file it.unit it.names it.checked.checked t
-  made_by = it.checked.by
-
-  abbrev columns : CheckedColumns
-  columns = made_by.columns
+  open it use {made_by, columns}
+  open has_unit file t it use {unit, nodes_are, order}
 
   abbrev parsed : Parsed
   parsed = parsed_of it.unit
-
-  nodes_are : it.unit.nodes ≡ t.nodes
-  nodes_are = sym made_by.elaborated.nodes_are
-
-  order : AreListed t.nodes 0 t.items (length t.nodes)
-  order =
-      subst (λ is. AreListed t.nodes 0 is (length t.nodes)) (sym made_by.elaborated.items_are)
-      (subst (λ ns. AreListed ns 0 it.unit.items (length ns)) nodes_are it.listed)
 
   free_at : (p : ℕ) → IsNodeFree it.checked.checked.table it.checked.checked.whole.typing p
   free_at p = all_free it.checked.checked.table made_by.tree it.checked.checked.texts it.checked.checked.whole.typing made_by.is.whole.typing p
@@ -281,7 +265,7 @@ module _ (file : List ℕ) (t : Typed) (it : IsUnitOfFile file t) where
       by false = named_body i
 
   -- the type that a node names in the typed unit
-  type_is : (i : ℕ) → i < length t.nodes → named_type t i ≡ names.named_of parsed columns i
+  pub type_is : (i : ℕ) → i < length t.nodes → named_type t i ≡ names.named_of parsed columns i
   type_is i low =
       let count : length t.nodes ≡ length it.unit.nodes = ap length made_by.elaborated.nodes_are in
       let rows = made_by.fits.named_count in

@@ -30,7 +30,7 @@ use Rattle.cr_check_declarators.specs.Specifiers.{integer_by, leaf_by, leaf_of, 
 use Rattle.cr_check_declarators.specs.Declarators.{is_unjudged, declared_type}
 use Rattle.cr_check_declarations.specs.declared.tree.Tree.{Tree}
 use Rattle.cr_check_declarations.specs.declared.tree.Tag.{Tag}
-use Rattle.cr_check_declarations.specs.Before.{Before, kind_in, type_in}
+use Rattle.cr_check_declarations.specs.Before.{kind_in, type_in}
 use Rattle.cr_check_declarations.specs.Specifiers.{structure_by, structure_of, content_of, is_given, given_by, given_of, specified_type}
 use Rattle.cr_check_declarations.specs.Named.{is_declarator, is_parameter, is_typedef, adjusted_if, type_by, is_misused, named_by, value_by, declared_as, names_ordinary, declares_name, ordinary_by, constant_by, named_declared, declared_by, declaration_of, specifiers_in, class_of, parameters_by}
 use Rattle.cr_check_initialisers.specs.Places.{sized}
@@ -227,9 +227,6 @@ module _ (shapes : List Shape) where
     pub declared : IsDeclaredFree (slice_index_or t.declared p Unclear)
 
   module _ (u : Tree) (texts : List (List ℕ)) (t : Typing) (all : (p : ℕ) → IsNodeFree t p) (e : Entry) (i : ℕ) (n : Node) (ruled : IsRuled u texts shapes t e i n) where
-    before : Before
-    before = before_in shapes t
-
     type_free : (o : Option ℕ) → IsFree (type_in (before_in shapes t).named o)
     type_free None = refl
     type_free (Some p) = (all p).named

@@ -4,7 +4,7 @@ use Rattle.std.specs.Prelude.{ℤ, fold, nat_lt, if◌then◌else◌}
 use Rattle.std.specs.Option.{is_some}
 use Rattle.std.proofs.lemmas.Bool.{cases_lt, false≢true, both_ways, lt-ltb, ltb-true, eqb-true, eq-eqb, ne_eqb}
 use Rattle.std.proofs.lemmas.List.{get_or-take, get_or_past}
-use Rattle.std.proofs.lemmas.Option.{slice_get_within}
+use Rattle.std.proofs.lemmas.Option.{slice_get_within, same_Some}
 use Rattle.cr_syntax.specs.declared.node.Kind.{Kind}
 use Rattle.cr_syntax.specs.declared.node.Kind.TheVariants as kind
 use Rattle.cr_syntax.specs.declared.node.Node.{Node}
@@ -39,7 +39,6 @@ use Rattle.cr_scopes_bindings.specs.Nodes.{named_by, named_if, name_at}
 use Rattle.cr_scopes_bindings.specs.Entities as bound
 use Rattle.cr_scopes_visibility.specs.Alone.Alone.{stands_alone, IsAlone}
 use Rattle.cr_scopes_visibility.proofs.AloneLemmas.First.{first_is}
-use Rattle.cr_check_types.specs.declared.shape.Shape.{Shape}
 use Rattle.cr_check_types.specs.Types.{type_at}
 use Rattle.cr_check_enclosing.specs.declared.context.Around.{Around}
 use Rattle.cr_check_enclosing.specs.declared.context.Place.{Place}
@@ -60,7 +59,6 @@ use Rattle.cr_check_declarators.specs.declared.declarator.Size.{Size}
 use Rattle.cr_check_declarators.specs.declared.declarator.Size.TheVariants as size
 use Rattle.cr_check_declarators.specs.Specifiers.{nothing, is_typedef_word, specified_by, both_storages, may_stand, storage_by, storage_fault_of}
 use Rattle.cr_check_declarators.specs.Declarators.{name_alone, is_hole_type, array_of, function_by, function_of}
-use Rattle.cr_check_declarations.specs.declared.tree.Tree.{Tree}
 use Rattle.cr_check_declarations.specs.Before.{first_in, kind_if as kind_of_node, kind_in, parts_if as parts_of_node, parts_in, declarator_in, specified_in}
 use Rattle.cr_check_declarations.specs.declared.tree.Tag.{Tag}
 use Rattle.cr_check_declarations.specs.Specifiers.{declares_by, are_specifiers, joined_in}
@@ -70,27 +68,26 @@ use Rattle.cr_check_declarations.specs.Faults.{has_at, fault_at, place_of, decla
 use Rattle.cr_check_expressions.specs.Breaks.{fault, IsAmong}
 use Rattle.cr_check_unit.specs.Breaks.{IsNodeBreak}
 use Rattle.cr_check_initialised.specs.Durations.{is_kept_class, is_kept, is_static}
-use Rattle.cr_check_unit.specs.declared.typing.Typing.{Typing}
 use Rattle.cr_check_unit.specs.Typing.{cut, entry_at, before_in, IsRuled, IsRuledIf}
 use Rattle.cr_typed.specs.declared.typed.Typed.{Typed}
 use Rattle.cr_typed.specs.declared.typed.Duration.TheVariants as duration
-use Rattle.cr_typed_columns.specs.declared.checked.CheckedColumns.{CheckedColumns}
 use Rattle.cr_typed_columns.specs.Reading.{parsed_of, entry_of}
 use Rattle.cr_typed_columns.specs.Rows.{listed}
 use Rattle.cr_typed_columns.specs.Entities as entities
 use Rattle.cr_typed_columns.specs.Names as names
-use Rattle.cr_typed_unit.specs.Typed.{IsTypedBy}
 use Rattle.cr_meaning_operations.specs.Operations.{name_of, entity_if, entity_of, is_automatic_by}
 use Rattle.cr_meaning_declarations.specs.Units.Owned.{AreOfUnit, AreDeclaredOnce}
 use Rattle.cr_meaning_declarations.proofs.UnitsLemmas.Rows.{clear_side, clear_laid, clear_at}
 use Rattle.cr_meaning_declarations.proofs.UnitsLemmas.Handing.{laid_at, parts_below}
 use Rattle.cr_meaning_declarations.specs.Declared.Files.{IsUnitOfFile}
-use Rattle.cr_meaning_declarations.proofs.DeclaredLemmas.Nodes.{of_unit}
 use Rattle.cr_meaning_declarations.proofs.DeclaredLemmas.Bodies.{IsThere, listed_at, last_has, last_there, name_there, node_of}
 use Rattle.cr_meaning_declarations.proofs.NamesLemmas.Leaves.{is_named, named_once}
 use Rattle.cr_meaning_declarations.proofs.NamesLemmas.Parents.{is_deriving, IsPartOf, part_below, one_parent, no_item, above_is, above_some, IsInside, as_part, whole_is}
 use Rattle.cr_meaning_declarations.proofs.NamesLemmas.Words.{word_of, Agrees, word_agrees, words_agree}
-use Rattle.cr_meaning_declarations.proofs.NamesLemmas.Walks.{some_same, is_external, is_holder, without, clears, no_external, sides_clear, AreNamedWell, all_alone, unit_good}
+use Rattle.cr_meaning_declarations.proofs.NamesLemmas.Walks.{is_holder, without, clears, no_external, sides_clear, AreNamedWell, all_alone, unit_good}
+use Rattle.cr_meaning_declarations.proofs.DeclaredLemmas.Files.{has_unit}
+use Rattle.cr_meaning_declarations.proofs.LinkedLemmas.Order.{forth}
+use Rattle.cr_scopes_linkage.specs.Shared.Origins.{is_external}
 
 -- ---- durations
 
@@ -148,10 +145,6 @@ of_declared k nodes said own row e d h = of_ordinary nodes said own row (specifi
 
 -- ---- storage classes
 
-abbrev only_class : Option Storage → Option Class
-only_class None = None
-only_class (Some one) = Some one.class
-
 -- one storage class that is neither `typedef` nor `extern` says nothing of names
 no_word : (word : Word) (st : Option Storage) (p : Place) (function : Bool) → Agrees word st → storage_by p function st ≡ None → is_typedef (class_of st) ≡ false → is_kept_class (class_of st) ≡ false → word ≡ NoWord
 no_word word None p function h k typed kept = h
@@ -183,28 +176,24 @@ kinds_differ t unit k h g = false≢true h
 
 -- ---- places
 
-abbrev place_inside : Kind → ℕ → Around → Place
+abbrev pub place_inside : Kind → ℕ → Around → Place
 place_inside k i a = (inside k i a).place
 
-place_declaration : (k : Kind) (i : ℕ) (a : Around) → k ≡ kind.Declaration → (inside k i a).place ≡ a.place
+pub place_declaration : (k : Kind) (i : ℕ) (a : Around) → k ≡ kind.Declaration → (inside k i a).place ≡ a.place
 unfolding inside
 place_declaration k i a e = ap (λ x. place_inside x i a) e
 
-place_init : (k : Kind) (i : ℕ) (a : Around) → k ≡ kind.InitDeclarator → (inside k i a).place ≡ a.place
+pub place_init : (k : Kind) (i : ℕ) (a : Around) → k ≡ kind.InitDeclarator → (inside k i a).place ≡ a.place
 unfolding inside
 place_init k i a e = ap (λ x. place_inside x i a) e
 
-place_holder : (k : Kind) (i : ℕ) (a : Around) → is_holder k ≡ true → ((inside k i a).place ≡ place.Block) ⊎ ((inside k i a).place ≡ place.Clause)
+pub place_holder : (k : Kind) (i : ℕ) (a : Around) → is_holder k ≡ true → ((inside k i a).place ≡ place.Block) ⊎ ((inside k i a).place ≡ place.Clause)
 unfolding inside
 place_holder kind.Compound i a h = inl refl
 place_holder kind.For i a h = inr refl
 place_holder k i a h = absurd (false≢true h)
 
 -- ---- numbers that rise along a list
-
-forth : {ns : List Node} {from end : ℕ} {ps : List ℕ} → AreListed ns from ps end → from ≤ end
-forth no_node = omega arith
-forth (one_more at below rest) = let x = forth below in let y = forth rest in omega (arith, x, y)
 
 -- what a part has below it begins from the list's own number on
 record IsOwn (ns : List Node) (from p : ℕ) : Type 0 where
@@ -225,7 +214,7 @@ own_from {ns = ns} {from = from} (one_more {p = q} {n = n} at below rest) (suc k
     let more = x.low in
     record { own = x.own; start = x.start; at = x.at; listed = x.listed; low = omega (arith, le, more) }
 
-begins_with : (of : Kind) → is_external of ≡ true → (ts : List Lexeme) (k : Kind) (a b : ℕ) (v u : Trees) (i j : ℕ) → IsLaid ts (side_of of) (tree_node k a b v u) i j → stands_for part.Specifiers k ≡ true
+pub begins_with : (of : Kind) → is_external of ≡ true → (ts : List Lexeme) (k : Kind) (a b : ℕ) (v u : Trees) (i j : ℕ) → IsLaid ts (side_of of) (tree_node k a b v u) i j → stands_for part.Specifiers k ≡ true
 unfolding rule_of
 begins_with kind.Declaration h ts k a b v u i j l = l.0.0
 begins_with kind.FunctionDefinition h ts k a b v u i j l = l.0.0
@@ -245,7 +234,7 @@ words_clear : clear_side are_specifiers (without kind.Specifiers kind.PlainSpeci
 unfolding rule_of
 words_clear = refl
 
-no_plain : (k : Kind) → stands_for part.Specifiers k ≡ true → k ≡ kind.PlainSpecifiers → ⊥
+pub no_plain : (k : Kind) → stands_for part.Specifiers k ≡ true → k ≡ kind.PlainSpecifiers → ⊥
 unfolding rule_of
 no_plain k h e = false≢true (subst (λ (x : Kind). stands_for part.Specifiers x ≡ true) e h)
 
@@ -265,34 +254,8 @@ function_made None false inner node empty e h = absurd (false≢true h)
 function_made (Some x) bare inner node empty e h = absurd cc
 
 module _ (file : List ℕ) (t : Typed) (it : IsUnitOfFile file t) where
-  unit : AreOfUnit t
-  unit = of_unit file t it
-
-  abbrev made_by : IsTypedBy file it.unit it.names it.checked.checked t
-  made_by = it.checked.by
-
-  abbrev typing : Typing
-  typing = it.checked.checked.whole.typing
-
-  abbrev shapes : List Shape
-  shapes = it.checked.checked.table
-
-  abbrev tree : Tree
-  tree = made_by.tree
-
-  abbrev columns : CheckedColumns
-  columns = made_by.columns
-
-  nodes_are : it.unit.nodes ≡ t.nodes
-  nodes_are = sym made_by.elaborated.nodes_are
-
-  tree_nodes : tree.nodes.now ≡ t.nodes
-  tree_nodes = made_by.is.whole.tree.nodes ∙ nodes_are
-
-  order : AreListed t.nodes 0 t.items (length t.nodes)
-  order =
-      subst (λ is. AreListed t.nodes 0 is (length t.nodes)) (sym made_by.elaborated.items_are)
-      (subst (λ ns. AreListed ns 0 it.unit.items (length ns)) nodes_are it.listed)
+  open it use {made_by, typing, shapes, tree, columns}
+  open has_unit file t it use {unit, nodes_are, tree_nodes, order}
 
   ruled : (i : ℕ) (n : Node) → slice_get t.nodes i ≡ Some n → IsRuled tree it.checked.checked.texts shapes (cut i typing) (entry_at typing i) i n
   ruled i n at = subst (IsRuledIf tree it.checked.checked.texts shapes (cut i typing) (entry_at typing i) i) (ap (λ ns. slice_get ns i) tree_nodes ∙ at) (made_by.is.whole.typing.each i)
@@ -348,14 +311,6 @@ module _ (file : List ℕ) (t : Typed) (it : IsUnitOfFile file t) where
   -- so what a declarator makes of its name
   abbrev IsTold : ℕ → Named → Type 0
   IsTold a d = (x : ℕ) → d.name ≡ Some x → IsNext a d.next
-
-  nameless : (a : ℕ) → IsTold a nowhere
-  nameless a x e = absurd cc
-
-  -- a declarator around another
-  around_next : (a b : ℕ) (m : Node) (outer : Derivation) → b < a → (IsNext b (declarator_of t.nodes b).next → IsNext a (innermost outer (declarator_of t.nodes b).next)) → IsTold b (declarator_of t.nodes b)
-      → IsTold a (derived outer (declarator_of t.nodes b))
-  around_next a b m outer less step inner x e = step (inner x e)
 
   group_told : (a b : ℕ) (m : Node) → slice_get t.nodes a ≡ Some m → m.kind ≡ kind.GroupDeclarator → slice_get m.parts 0 ≡ Some b → b < a → IsTold b (declarator_of t.nodes b) → IsTold a (derived Nothing (declarator_of t.nodes b))
   group_told a b m at is e less inner x named =
@@ -560,7 +515,7 @@ module _ (file : List ℕ) (t : Typed) (it : IsUnitOfFile file t) where
   around_place p a h = ap (λ (x : Around). x.place) (around_part p a h)
 
   around_by : (p a : ℕ) (m : Node) → slice_get t.nodes a ≡ Some m → IsPartOf t unit p a → (around p).place ≡ place_inside m.kind a (around a)
-  around_by p a m at h = around_place p a h ∙ ap (λ (x : Node). place_inside x.kind a (around a)) (some_same h.parent m (sym h.at ∙ at))
+  around_by p a m at h = around_place p a h ∙ ap (λ (x : Node). place_inside x.kind a (around a)) (same_Some h.parent m (sym h.at ∙ at))
 
   -- a declaration stands at file scope, in a block or in a clause
   holder : (i a : ℕ) (m : Node) (h : IsPartOf t unit i a) → slice_get t.nodes i ≡ Some m → is_external m.kind ≡ true → is_holder h.parent.kind ≡ true
@@ -572,7 +527,7 @@ module _ (file : List ℕ) (t : Typed) (it : IsUnitOfFile file t) where
           let row = clear_laid is_external (without kind.Declaration kind.FunctionDefinition) no_external unit.tokens (side_of h.parent.kind) (row_in t.nodes h.parent.parts) h.parent.first (h.parent.last + 1)
           (sides_clear h.parent.kind q) (laid_at t unit a h.parent h.at) in
           let one = clear_at is_external (without kind.Declaration kind.FunctionDefinition) no_external t.nodes unit.below h.parent.parts (parts_below t unit a h.parent h.at) row h.place i h.is in
-          let same : one.0 ≡ m = some_same one.0 m (sym one.1.0 ∙ at) in
+          let same : one.0 ≡ m = same_Some one.0 m (sym one.1.0 ∙ at) in
           sym one.1.1 ∙ ap (λ (x : Node). is_external x.kind) same ∙ external
 
   places : (i : ℕ) (m : Node) → slice_get t.nodes i ≡ Some m → is_external m.kind ≡ true
@@ -683,12 +638,12 @@ module _ (file : List ℕ) (t : Typed) (it : IsUnitOfFile file t) where
         alone : (p ≡ q) ⊎ ((scripts.kind_at t.nodes p ≡ Some kind.InitDeclarator) × (slice_get (scripts.parts_at t.nodes p) 0 ≡ Some q)) → (b : ℕ) → IsInside t unit q b → ⊥
         alone (inl same) b inner =
             let e : i ≡ b = one_parent t unit q i b (subst (λ y. IsPartOf t unit y i) same h) (as_part t unit q b inner) in
-            let one : m ≡ inner.outer = some_same m inner.outer (sym at ∙ ap (slice_get t.nodes) e ∙ inner.at) in
+            let one : m ≡ inner.outer = same_Some m inner.outer (sym at ∙ ap (slice_get t.nodes) e ∙ inner.at) in
             kinds_differ t unit inner.outer.kind (subst (λ (y : Node). is_external y.kind ≡ true) one external) inner.derives
         alone (inr init) b inner =
             let e : p ≡ b = one_parent t unit q p b (in_init p q init.0 init.1) (as_part t unit q b inner) in
             let y = node_of t unit order p kind.InitDeclarator init.0 in
-            let one : y.0 ≡ inner.outer = some_same y.0 inner.outer (sym y.1.0 ∙ ap (slice_get t.nodes) e ∙ inner.at) in
+            let one : y.0 ≡ inner.outer = same_Some y.0 inner.outer (sym y.1.0 ∙ ap (slice_get t.nodes) e ∙ inner.at) in
             false≢true (ap (is_deriving t unit) (sym y.1.1 ∙ ap (λ (z : Node). z.kind) one) ∙ inner.derives)
 
     -- its specifiers stand before it

@@ -22,21 +22,19 @@ use Rattle.cr_check_initialisers.specs.Known.{Known, is_list, is_list_if, parts_
 use Rattle.cr_check_initialisers.specs.Places.{Place, opens}
 use Rattle.cr_check_initialisers.specs.Plans.{Entry, put, excess, Fills, ends, exceeds, braces, whole, elided, loses, IsPlan, by_expression, by_list, entry_of, entries_of, puts_of}
 use Rattle.cr_check_initialised.specs.Initialised.{Planned, is_planned, planned_if, planned_in, planned_by, IsFilled}
-use Rattle.cr_check_unit.specs.declared.typing.Typing.{Typing}
 use Rattle.cr_check_unit.specs.Typing.{cut, entry_at, known_in, IsRuled, IsRuledIf}
 use Rattle.cr_typed.specs.declared.typed.Typed.{Typed}
 use Rattle.cr_typed.specs.declared.typed.Put.{Put}
 use Rattle.cr_typed_columns.specs.Rows.{put_entry}
-use Rattle.cr_typed_unit.specs.Typed.{IsTypedBy}
 use Rattle.cr_meaning_declarations.specs.Units.Owned.{AreOfUnit, IsInitialiser, AreInitialisers}
 use Rattle.cr_meaning_declarations.proofs.UnitsLemmas.Handing.{laid_at, parts_below}
 use Rattle.cr_meaning_declarations.specs.Declared.Files.{IsUnitOfFile}
-use Rattle.cr_meaning_declarations.proofs.DeclaredLemmas.Nodes.{of_unit}
+use Rattle.cr_meaning_declarations.proofs.DeclaredLemmas.Files.{has_unit}
 
 -- ---- what is planned
 
 -- the initialiser of a plan is the second part of an initialised declarator
-second_part : (layouts : List Layout) (object : Option Qualified) (o : Option ℕ) (q : Planned) → planned_in layouts object o ≡ Some q → o ≡ Some q.initialiser
+pub second_part : (layouts : List Layout) (object : Option Qualified) (o : Option ℕ) (q : Planned) → planned_in layouts object o ≡ Some q → o ≡ Some q.initialiser
 second_part layouts None o q e = absurd cc
 second_part layouts (Some type) None q e = absurd cc
 second_part layouts (Some type) (Some i) q e = by (is_planned layouts type) e
@@ -45,7 +43,7 @@ second_part layouts (Some type) (Some i) q e = by (is_planned layouts type) e
     by true e = let same : record { type = type; initialiser = i } ≡ q = cc in ap (λ (p : Planned). Some p.initialiser) same
     by false e = absurd cc
 
-of_initialised : (k : Kind) (layouts : List Layout) (object : Option Qualified) (parts : List ℕ) (q : Planned) → planned_by k layouts object parts ≡ Some q
+pub of_initialised : (k : Kind) (layouts : List Layout) (object : Option Qualified) (parts : List ℕ) (q : Planned) → planned_by k layouts object parts ≡ Some q
     → (k ≡ kind.InitDeclarator) × (slice_get parts 1 ≡ Some q.initialiser)
 of_initialised kind.InitDeclarator layouts object parts q e = (refl, second_part layouts object (slice_get parts 1) q e)
 of_initialised k layouts object parts q e = absurd cc
@@ -172,22 +170,10 @@ module _ (t : Typed) where
 -- ---- the plans of a unit
 
 module _ (file : List ℕ) (t : Typed) (it : IsUnitOfFile file t) where
-  unit : AreOfUnit t
-  unit = of_unit file t it
-
-  abbrev made_by : IsTypedBy file it.unit it.names it.checked.checked t
-  made_by = it.checked.by
-
-  abbrev typing : Typing
-  typing = it.checked.checked.whole.typing
-
-  abbrev shapes : List Shape
-  shapes = it.checked.checked.table
+  open it use {made_by, typing, shapes}
+  open has_unit file t it use {unit, tree_nodes as nodes_are}
 
   -- the tree's nodes are those of the unit
-  nodes_are : made_by.tree.nodes.now ≡ t.nodes
-  nodes_are = made_by.is.whole.tree.nodes ∙ sym made_by.elaborated.nodes_are
-
   entries : (node : ℕ) (n : Node) → slice_get t.nodes node ≡ Some n → AreEntries t (entries_of shapes (slice_index_or typing.lines node []))
   entries node n at =
       filled_if t (known_in shapes made_by.tree (cut node typing)) lists node _ _ _ _ ruled.filled

@@ -3,24 +3,18 @@ use Rattle.std.proofs.Common.{◌≡◌, ℕ, zero, suc, ◌<◌, ◌==◌, Bool
 use Rattle.std.specs.Prelude.{if◌then◌else◌}
 use Rattle.std.specs.List.{list_any}
 use Rattle.std.proofs.lemmas.Bool.{false≢true, eqb-true, eq-eqb, lt-ltb, or_left, or_right}
-use Rattle.std.proofs.lemmas.Option.{slice_get_within}
+use Rattle.std.proofs.lemmas.Option.{slice_get_within, same_Some}
 use Rattle.cr_scopes_events.specs.declared.event.Event.{Event}
 use Rattle.cr_scopes.specs.declared.names.Entity.{Entity}
 use Rattle.cr_scopes.specs.declared.names.Names.{Names}
 use Rattle.cr_scopes.specs.declared.told.Told.{Told}
 use Rattle.cr_scopes.specs.Resolved.{number_of, with_token, is_number, entity_of, told_below, AreResolved}
 use Rattle.cr_scopes_bindings.specs.Entities.{entity_within, entity_at, first_in, first_if, first_of}
+use Rattle.cr_scopes_visibility.proofs.AloneLemmas.First.{number_same}
 
 pub one_of : (a b : Bool) → (a || b) ≡ true → (a ≡ true) ⊎ (b ≡ true)
 one_of true b h = inl refl
 one_of false b h = inr h
-
-number_same : (o : Option ℕ) (k : ℕ) → is_number o k ≡ true → o ≡ Some k
-number_same None k e = absurd (false≢true e)
-number_same (Some j) k e = ap Some (eqb-true j k e)
-
-some_same : {A : Type 0} (x y : A) → Some x ≡ Some y → x ≡ y
-some_same x y e = cc
 
 any_more : (token : ℕ) (xs : List ℕ) (t : ℕ) → list_any (λ d. d == token) (xs ++ t ∷ []) ≡ true → (list_any (λ d. d == token) xs ≡ true) ⊎ (t ≡ token)
 any_more token [] t h = elim (one_of (t == token) false h) [ inl own ↦ inr (eqb-true t token own) | inr never ↦ absurd (false≢true never) ]
@@ -29,9 +23,9 @@ any_more token (x ∷ xs) t h = elim (one_of (x == token) (list_any (λ d. d == 
   | inr rest ↦ elim (any_more token xs t rest) [ inl here ↦ inl (or_right (x == token) (list_any (λ d. d == token) xs) here) | inr same ↦ inr same ]
 ]
 
-any_first : (token : ℕ) (xs : List ℕ) → first_in xs ≡ Some token → list_any (λ d. d == token) xs ≡ true
+pub any_first : (token : ℕ) (xs : List ℕ) → first_in xs ≡ Some token → list_any (λ d. d == token) xs ≡ true
 any_first token [] e = absurd cc
-any_first token (x ∷ xs) e = or_left (x == token) (list_any (λ d. d == token) xs) (eq-eqb x token (some_same x token e))
+any_first token (x ∷ xs) e = or_left (x == token) (list_any (λ d. d == token) xs) (eq-eqb x token (same_Some x token e))
 
 -- what an entity declares stands for it
 module _ (at : ℕ → Option Told) (token k : ℕ) where
@@ -68,7 +62,7 @@ begun_own name events tokens names first k resolved low e = by (slice_get names.
     by (Some x) q e =
         let few : k < length names.entities = slice_get_within names.entities k x q in
         let own : x ≡ entity_of (told_below name events tokens) tokens k =
-        some_same x (entity_of (told_below name events tokens) tokens k) (sym q ∙ resolved.names.entities k (let c = resolved.names.count in omega (arith, few, c))) in
+        same_Some x (entity_of (told_below name events tokens) tokens k) (sym q ∙ resolved.names.entities k (let c = resolved.names.count in omega (arith, few, c))) in
         let there = stands (told_below name events tokens) first k tokens (subst (λ (y : Entity). list_any (λ d. d == first) y.declared ≡ true) own (any_first first x.declared e)) in
         ap (entity_within (length names.entities)) (resolved.names.of_token first low ∙ number_same _ k there)
         ∙ ap (λ b. if b then Some k else None) (lt-ltb k (length names.entities) few)

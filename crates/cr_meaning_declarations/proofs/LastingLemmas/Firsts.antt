@@ -15,39 +15,29 @@ use Rattle.cr_scopes_bindings.specs.Last.{last_with}
 use Rattle.cr_scopes_bindings.specs.Entities as bound
 use Rattle.cr_typed.specs.declared.typed.Typed.{Typed}
 use Rattle.cr_typed.specs.declared.typed.Duration.TheVariants as duration
-use Rattle.cr_typed_columns.specs.declared.checked.CheckedColumns.{CheckedColumns}
 use Rattle.cr_typed_columns.specs.Reading.{parsed_of, entry_of}
 use Rattle.cr_typed_columns.specs.Entities as entities
 use Rattle.cr_typed_columns.specs.Names as names
-use Rattle.cr_typed_unit.specs.Typed.{IsTypedBy}
 use Rattle.cr_syntax_nodes.proofs.Numbers.{some_at}
 use Rattle.cr_meaning_operations.specs.Operations.{kind_if, kind_at, part_at, is_name, name_by, name_of, entity_if, entity_of, is_static_by, is_static, is_lasting}
 use Rattle.cr_meaning_declarations.specs.Declared.Files.{IsUnitOfFile}
 use Rattle.cr_meaning_declarations.proofs.DeclaredLemmas.Bodies.{IsThere, listed_at, last_has, name_there}
 use Rattle.cr_meaning_declarations.specs.Lasting.Laws
 use Rattle.cr_meaning_declarations.proofs.LastingLemmas.Begun.{begun_own}
+use Rattle.cr_meaning_declarations.proofs.DeclaredLemmas.Files.{has_unit}
 
 no_goto : (k : Kind) → (k ≡ kind.Goto → ⊥) → names.is_goto (Some k) ≡ false
 no_goto kind.Goto f = absurd (f refl)
 no_goto k f = refl
 
 -- a name's own declarator
-name_here : (t : Typed) (m i : ℕ) → 0 < m → is_name (kind_at t i) ≡ true → name_by m t i ≡ i
+pub name_here : (t : Typed) (m i : ℕ) → 0 < m → is_name (kind_at t i) ≡ true → name_by m t i ≡ i
 name_here t zero i some e = absurd (omega (arith, some))
 name_here t (suc m) i some e = ap (λ b. if b then i else name_by m t (part_at t i 0)) e
 
 module _ (file : List ℕ) (t : Typed) (it : IsUnitOfFile file t) where
-  abbrev made_by : IsTypedBy file it.unit it.names it.checked.checked t
-  made_by = it.checked.by
-
-  abbrev columns : CheckedColumns
-  columns = made_by.columns
-
-  nodes_are : it.unit.nodes ≡ t.nodes
-  nodes_are = sym made_by.elaborated.nodes_are
-
-  count : length t.nodes ≡ length it.unit.nodes
-  count = ap length made_by.elaborated.nodes_are
+  open it use {made_by, columns}
+  open has_unit file t it use {nodes_are, count}
 
   ref_is : (i : ℕ) → i < length t.nodes → slice_index_or t.refs i None ≡ names.ref_of (parsed_of it.unit) columns i
   ref_is i low =

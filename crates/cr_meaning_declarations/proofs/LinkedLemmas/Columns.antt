@@ -1,6 +1,6 @@
 -- What the columns of a unit know of the declaration before a declarator is the declarator of the token before it (C11 6.2.7p2).
 use Rattle.std.proofs.Common.{◌≡◌, ℕ, zero, suc, ◌<◌, ◌≤◌, Bool, true, false, List, Option, None, Some, length, slice_get, slice_index_or, inl, inr, refl, sym, ap, subst, ◌∙◌, arith, if◌then◌else◌}
-use Rattle.std.proofs.lemmas.Bool.{cases_lt, false≢true, eqb-true, eq-eqb}
+use Rattle.std.proofs.lemmas.Bool.{cases_lt, false≢true, eq-eqb}
 use Rattle.std.proofs.lemmas.Option.{slice_get_within}
 use Rattle.cr_syntax.specs.declared.node.Kind.{Kind}
 use Rattle.cr_syntax.specs.declared.node.Kind.TheVariants as kind
@@ -21,15 +21,15 @@ use Rattle.cr_scopes_linkage.specs.Shared.Origins.{IsDeclarer}
 use Rattle.cr_check_surroundings.specs.Named.{same_if}
 use Rattle.cr_check_surroundings.specs.Raised.{raised_of}
 use Rattle.cr_typed.specs.declared.typed.Typed.{Typed}
-use Rattle.cr_typed_unit.specs.Typed.{IsTypedBy}
 use Rattle.cr_meaning_declarations.specs.Units.Owned.{AreOfUnit}
 use Rattle.cr_meaning_declarations.proofs.NamesLemmas.Leaves.{is_named, named_once}
 use Rattle.cr_meaning_declarations.proofs.NamesLemmas.Parents.{whole_is}
 use Rattle.cr_meaning_declarations.specs.Declared.Files.{IsUnitOfFile}
-use Rattle.cr_meaning_declarations.proofs.DeclaredLemmas.Nodes.{of_unit}
 use Rattle.cr_meaning_declarations.specs.Linked.Laws
 use Rattle.cr_meaning_declarations.proofs.LinkedLemmas.Owned.{own_there, alone}
-use Rattle.cr_meaning_declarations.proofs.LinkedLemmas.Order.{there, order_of}
+use Rattle.cr_meaning_declarations.proofs.LinkedLemmas.Order.{there}
+use Rattle.cr_meaning_declarations.proofs.DeclaredLemmas.Files.{has_unit, order_of}
+use Rattle.cr_scopes_visibility.proofs.AloneLemmas.First.{number_same as number_is}
 
 -- ---- the last of numbers with a key
 
@@ -53,10 +53,6 @@ last_there key (suc b) k q less h = by (is_number (key b) k) refl (λ x. last_th
           record { last = x.last; is = ap (λ c. if c then Some b else last_with key b k) e ∙ x.is; has = x.has; behind = x.behind; low = omega (arith, low) })
       | inr ge ↦ (let same : b ≡ q = omega (arith, less, ge) in absurd (false≢true (sym e ∙ ap (λ y. is_number (key y) k) same ∙ h)))
     ]
-
-number_is : (o : Option ℕ) (k : ℕ) → is_number o k ≡ true → o ≡ Some k
-number_is None k h = absurd (false≢true h)
-number_is (Some j) k h = ap Some (eqb-true j k h)
 
 -- an enumerator has no declarator
 enumerator_nameless : (k : Kind) (at : ℕ → Declarator) (i : ℕ) (n : Node) (token : ℕ) → k ≡ kind.Enumerator → (declared_by k at i n).name ≡ Some token → ⊥
@@ -103,14 +99,8 @@ module _ (t : Typed) (unit : AreOfUnit t) (order : AreListed t.nodes 0 t.items (
       l.is ∙ ap Some (sym (whole_is t unit order x.own x.node x.at x.is q l.last (d.name ∙ ap Some (sym x.first)) (other ∙ ap Some (sym x.first)) l.behind (alone t unit order token i q m d)))
 
 module _ (file : List ℕ) (t : Typed) (it : IsUnitOfFile file t) where
-  abbrev u : AreOfUnit t
-  u = of_unit file t it
-
-  abbrev made_by : IsTypedBy file it.unit it.names it.checked.checked t
-  made_by = it.checked.by
-
-  nodes_are : it.unit.nodes ≡ t.nodes
-  nodes_are = sym made_by.elaborated.nodes_are
+  open it use {made_by}
+  open has_unit file t it use {unit as u, nodes_are}
 
   -- a declared token is one of the unit's
   token_low : (token i q : ℕ) (m : Node) → IsDeclarer t.nodes token i q m → token < length it.unit.tokens.list.items

@@ -2,7 +2,7 @@
 use Rattle.std.proofs.Common.{◌≡◌, ℕ, zero, suc, ◌+◌, ◌<◌, ◌≤◌, ◌==◌, Bool, true, false, not, ◌||◌, List, [], ◌∷◌, Option, None, Some, length, nat_lt, slice_get, inl, inr, refl, sym, ap, subst, ◌∙◌, arith, if◌then◌else◌}
 use Rattle.std.specs.List.{list_any}
 use Rattle.std.proofs.lemmas.Bool.{cases_lt, false≢true, both_ways, not-true, or_left, or_right, eqb-true, ltb-true}
-use Rattle.std.proofs.lemmas.Option.{slice_get_within}
+use Rattle.std.proofs.lemmas.Option.{slice_get_within, same_Some}
 use Rattle.cr_syntax.specs.declared.node.Kind.{Kind}
 use Rattle.cr_syntax.specs.declared.node.Kind.TheVariants as kind
 use Rattle.cr_syntax.specs.declared.node.Node.{Node}
@@ -31,22 +31,19 @@ use Rattle.cr_meaning_declarations.proofs.NamesLemmas.Parents.{IsPartOf, part_be
 use Rattle.cr_meaning_declarations.specs.Sight.Under.{is_under}
 use Rattle.cr_meaning_declarations.proofs.SightLemmas.Under.{under_at, directly, outermost_outside, further}
 use Rattle.cr_meaning_declarations.specs.Linked.Laws
-use Rattle.cr_meaning_declarations.specs.Declared.Files.{IsUnitOfFile}
 use Rattle.cr_meaning_declarations.proofs.DeclaredLemmas.Nodes.{of_unit}
 use Rattle.cr_meaning_declarations.proofs.DeclaredLemmas.Bodies.{node_of}
 use Rattle.cr_meaning_declarations.proofs.LinkedLemmas.Owned.{part_of, in_init}
-
-some_same : {A : Type 0} (x y : A) → Some x ≡ Some y → x ≡ y
-some_same x y e = cc
+use Rattle.cr_meaning_declarations.proofs.DeclaredLemmas.Files.{order_of}
 
 -- ---- statements, declarations and definitions
 
-abbrev standing : List Kind
+abbrev pub standing : List Kind
 standing =
     kind.Compound ∷ kind.ExpressionStatement ∷ kind.If ∷ kind.Switch ∷ kind.While ∷ kind.Do ∷ kind.For ∷ kind.Label ∷ kind.Case ∷ kind.Default ∷ kind.Goto ∷ kind.Break ∷ kind.Continue ∷ kind.Return ∷ kind.Declaration
     ∷ kind.FunctionDefinition ∷ []
 
-abbrev stands_alone : Kind → Bool
+abbrev pub stands_alone : Kind → Bool
 stands_alone kind.Compound = true
 stands_alone kind.ExpressionStatement = true
 stands_alone kind.If = true
@@ -66,16 +63,16 @@ stands_alone kind.FunctionDefinition = true
 stands_alone k = false
 
 -- no such kind stands for the part
-abbrev without : Part → Bool
+abbrev pub without : Part → Bool
 without p = not (list_any (λ k. stands_for p k) standing)
 
-among : (test : Kind → Bool) (ks : List Kind) (i : ℕ) (k : Kind) → slice_get ks i ≡ Some k → test k ≡ true → list_any test ks ≡ true
+pub among : (test : Kind → Bool) (ks : List Kind) (i : ℕ) (k : Kind) → slice_get ks i ≡ Some k → test k ≡ true → list_any test ks ≡ true
 among test [] i k e h = absurd cc
 among test (x ∷ ks) zero k e h = let same : x ≡ k = cc in or_left (test x) (list_any test ks) (ap test same ∙ h)
 among test (x ∷ ks) (suc i) k e h = or_right (test x) (list_any test ks) (among test ks i k e h)
 
 -- where such a kind stands in the list
-place_of : (k : Kind) → stands_alone k ≡ true → (i : ℕ) × (slice_get standing i ≡ Some k)
+pub place_of : (k : Kind) → stands_alone k ≡ true → (i : ℕ) × (slice_get standing i ≡ Some k)
 place_of kind.Compound h = (0, refl)
 place_of kind.ExpressionStatement h = (1, refl)
 place_of kind.If h = (2, refl)
@@ -94,7 +91,7 @@ place_of kind.Declaration h = (14, refl)
 place_of kind.FunctionDefinition h = (15, refl)
 place_of k h = absurd (false≢true h)
 
-clears : (p : Part) (k : Kind) → without p ≡ true → stands_for p k ≡ true → stands_alone k ≡ false
+pub clears : (p : Part) (k : Kind) → without p ≡ true → stands_for p k ≡ true → stands_alone k ≡ false
 clears p k c s = by (stands_alone k) refl
   where
     by : (b : Bool) → stands_alone k ≡ b → stands_alone k ≡ false
@@ -104,7 +101,7 @@ clears p k c s = by (stands_alone k) refl
         absurd (both_ways (list_any (λ x. stands_for p x) standing) (not-true (list_any (λ x. stands_for p x) standing) c) (among (λ x. stands_for p x) standing at.0 k at.1 s))
 
 -- what is none of them has none of them as a part
-sides_clear : (k : Kind) → stands_alone k ≡ false → clear_side stands_alone without clears (side_of k) ≡ true
+pub sides_clear : (k : Kind) → stands_alone k ≡ false → clear_side stands_alone without clears (side_of k) ≡ true
 unfolding rule_of
 sides_clear kind.Compound h = absurd (false≢true (sym h))
 sides_clear kind.ExpressionStatement h = absurd (false≢true (sym h))
@@ -124,13 +121,13 @@ sides_clear kind.Declaration h = absurd (false≢true (sym h))
 sides_clear kind.FunctionDefinition h = absurd (false≢true (sym h))
 sides_clear k h = refl
 
-external_alone : (k : Kind) → is_external k ≡ true → stands_alone k ≡ true
+pub external_alone : (k : Kind) → is_external k ≡ true → stands_alone k ≡ true
 external_alone kind.Declaration h = refl
 external_alone kind.FunctionDefinition h = refl
 external_alone k h = absurd (false≢true h)
 
 -- what declares a name is a declarator
-abbrev is_initial : Kind → Bool
+abbrev pub is_initial : Kind → Bool
 is_initial kind.InitDeclarator = true
 is_initial k = false
 
@@ -144,7 +141,7 @@ declares_kind k at i n token e = let never : None ≡ Some token = e in absurd c
 
 -- ---- numbers that rise along a list
 
-forth : {ns : List Node} {from end : ℕ} {ps : List ℕ} → AreListed ns from ps end → from ≤ end
+pub forth : {ns : List Node} {from end : ℕ} {ps : List ℕ} → AreListed ns from ps end → from ≤ end
 forth no_node = omega arith
 forth (one_more at below rest) = let x = forth below in let y = forth rest in omega (arith, x, y)
 
@@ -213,7 +210,7 @@ module _ (t : Typed) (unit : AreOfUnit t) (order : AreListed t.nodes 0 t.items (
 
   -- ---- what stands alone stands under nothing else
 
-  alone_above : (x y : ℕ) (h : IsPartOf t unit x y) (n : Node) → slice_get t.nodes x ≡ Some n → stands_alone n.kind ≡ true → stands_alone h.parent.kind ≡ true
+  pub alone_above : (x y : ℕ) (h : IsPartOf t unit x y) (n : Node) → slice_get t.nodes x ≡ Some n → stands_alone n.kind ≡ true → stands_alone h.parent.kind ≡ true
   alone_above x y h n at alone = by (stands_alone h.parent.kind) refl
     where
       by : (b : Bool) → stands_alone h.parent.kind ≡ b → b ≡ true
@@ -221,17 +218,17 @@ module _ (t : Typed) (unit : AreOfUnit t) (order : AreListed t.nodes 0 t.items (
       by false q =
           let row = clear_laid stands_alone without clears unit.tokens (side_of h.parent.kind) (row_in t.nodes h.parent.parts) h.parent.first (h.parent.last + 1) (sides_clear h.parent.kind q) (laid_at t unit y h.parent h.at) in
           let one = clear_at stands_alone without clears t.nodes unit.below h.parent.parts (parts_below t unit y h.parent h.at) row h.place x h.is in
-          let same : one.0 ≡ n = some_same one.0 n (sym one.1.0 ∙ at) in
+          let same : one.0 ≡ n = same_Some one.0 n (sym one.1.0 ∙ at) in
           sym one.1.1 ∙ ap (λ (z : Node). stands_alone z.kind) same ∙ alone
 
-  climbs : (fuel x q : ℕ) (n m : Node) → length t.nodes < fuel + x → slice_get t.nodes x ≡ Some n → stands_alone n.kind ≡ true → slice_get t.nodes q ≡ Some m → stands_alone m.kind ≡ false → is_under t q x ≡ true → ⊥
+  pub climbs : (fuel x q : ℕ) (n m : Node) → length t.nodes < fuel + x → slice_get t.nodes x ≡ Some n → stands_alone n.kind ≡ true → slice_get t.nodes q ≡ Some m → stands_alone m.kind ≡ false → is_under t q x ≡ true → ⊥
   climbs zero x q n m high at alone here not_alone under = let w = slice_get_within t.nodes x n at in absurd (omega (arith, high, w))
   climbs (suc fuel) x q n m high at alone here not_alone under = by (above_of t.nodes (length t.nodes) x) refl (λ y k less there own up. climbs fuel y q k m (omega (arith, high, less)) there own here not_alone up)
     where
       at_node : (y : ℕ) (h : IsPartOf t unit x y) → ((y : ℕ) (k : Node) → x < y → slice_get t.nodes y ≡ Some k → stands_alone k.kind ≡ true → is_under t q y ≡ true → ⊥) → (b : Bool) → (y == q) ≡ b → (b || is_under t q y) ≡ true → ⊥
       at_node y h rest true e f =
           let there : Some h.parent ≡ Some m = sym h.at ∙ ap (slice_get t.nodes) (eqb-true y q e) ∙ here in
-          let same : h.parent ≡ m = some_same h.parent m there in
+          let same : h.parent ≡ m = same_Some h.parent m there in
           false≢true (sym not_alone ∙ ap (λ (z : Node). stands_alone z.kind) (sym same) ∙ alone_above x y h n at alone)
       at_node y h rest false e f = rest y h.parent (part_below t unit x y h) h.at (alone_above x y h n at alone) f
 
@@ -257,7 +254,7 @@ module _ (t : Typed) (unit : AreOfUnit t) (order : AreListed t.nodes 0 t.items (
           ])
       | inr le ↦
           (let e : x ≡ y = omega (arith, ge, le) in
-          let same : m ≡ n = some_same m n (sym at ∙ ap (slice_get t.nodes) e ∙ there) in
+          let same : m ≡ n = same_Some m n (sym at ∙ ap (slice_get t.nodes) e ∙ there) in
           let first : m.first ≡ n.first = ap (λ (z : Node). z.first) same in
           absurd (omega (arith, first, less)))
     ]
@@ -297,14 +294,14 @@ module _ (t : Typed) (unit : AreOfUnit t) (order : AreListed t.nodes 0 t.items (
       where
         from_declaration : (c : Bool) → (j == q) ≡ c → (c || is_under t q j) ≡ true → ⊥
         from_declaration true f g =
-            let same : n ≡ one.0 = some_same n one.0 (sym e.at ∙ ap (slice_get t.nodes) (eqb-true j q f) ∙ one.1) in
+            let same : n ≡ one.0 = same_Some n one.0 (sym e.at ∙ ap (slice_get t.nodes) (eqb-true j q f) ∙ one.1) in
             false≢true (sym kinds.0 ∙ ap (λ (z : Node). stands_alone z.kind) (sym same) ∙ external_alone n.kind e.external)
         from_declaration false f g = climbs (suc (length t.nodes)) j q n one.0 (omega arith) e.at (external_alone n.kind e.external) one.1 kinds.0 g
 
         from_initial : scripts.kind_at t.nodes e.part ≡ Some kind.InitDeclarator → (c : Bool) → (e.part == q) ≡ c → (c || is_under t q e.part) ≡ true → ⊥
         from_initial init true f g =
             let y = node_of t unit order e.part kind.InitDeclarator init in
-            let same : y.0 ≡ one.0 = some_same y.0 one.0 (sym y.1.0 ∙ ap (slice_get t.nodes) (eqb-true e.part q f) ∙ one.1) in
+            let same : y.0 ≡ one.0 = same_Some y.0 one.0 (sym y.1.0 ∙ ap (slice_get t.nodes) (eqb-true e.part q f) ∙ one.1) in
             false≢true (sym kinds.1 ∙ ap (λ (z : Node). is_initial z.kind) (sym same) ∙ ap is_initial y.1.1)
         from_initial init false f g = from_declaration (j == q) refl (sym (under_at t unit q e.part j (part_of t unit order b j r n e)) ∙ g)
 
@@ -330,12 +327,6 @@ module _ (t : Typed) (unit : AreOfUnit t) (order : AreListed t.nodes 0 t.items (
                 absurd (omega (arith, token, less)))
           ])
     ]
-
--- a file's nodes are listed in order
-pub order_of : (file : List ℕ) (t : Typed) (it : IsUnitOfFile file t) → AreListed t.nodes 0 t.items (length t.nodes)
-order_of file t it =
-    subst (λ is. AreListed t.nodes 0 is (length t.nodes)) (sym it.checked.by.elaborated.items_are)
-    (subst (λ ns. AreListed ns 0 it.unit.items (length ns)) (sym it.checked.by.elaborated.nodes_are) it.listed)
 
 pub in_order_is : Laws.DeclaratorsAreInOrder
 in_order_is file t it a b i q j r m n d e less = in_turn t (of_unit file t it) (order_of file t it) a b i q j r m n d e less

@@ -1,6 +1,7 @@
 -- A token is declared by one declarator of one declaration at the most (C11 6.7.6p4).
 use Rattle.std.proofs.Common.{◌≡◌, ℕ, zero, suc, ◌<◌, Bool, true, false, List, [], ◌∷◌, Option, None, Some, length, nat_lt, slice_get, inl, inr, refl, sym, ap, subst, ◌∙◌, arith, if◌then◌else◌}
 use Rattle.std.proofs.lemmas.Bool.{cases_lt, false≢true, ltb-true}
+use Rattle.std.proofs.lemmas.Option.{same_Some}
 use Rattle.cr_syntax.specs.declared.node.Kind.{Kind}
 use Rattle.cr_syntax.specs.declared.node.Kind.TheVariants as kind
 use Rattle.cr_syntax.specs.declared.node.Node.{Node}
@@ -15,9 +16,6 @@ use Rattle.cr_typed.specs.declared.typed.Typed.{Typed}
 use Rattle.cr_meaning_declarations.specs.Units.Owned.{AreOfUnit}
 use Rattle.cr_meaning_declarations.proofs.NamesLemmas.Parents.{is_deriving, IsPartOf, one_parent, IsInside, as_part, whole_is}
 use Rattle.cr_meaning_declarations.proofs.DeclaredLemmas.Bodies.{node_of}
-
-some_same : {A : Type 0} (x y : A) → Some x ≡ Some y → x ≡ y
-some_same x y e = cc
 
 module _ (t : Typed) (unit : AreOfUnit t) (order : AreListed t.nodes 0 t.items (length t.nodes)) (token : ℕ) where
   -- ---- the identifier itself
@@ -80,12 +78,12 @@ module _ (t : Typed) (unit : AreOfUnit t) (order : AreListed t.nodes 0 t.items (
     alone b inner = elim d.declares [
       | inl same ↦
           (let e : i ≡ b = one_parent t unit q i b (subst (λ y. IsPartOf t unit y i) same part_of) (as_part t unit q b inner) in
-          let one : m ≡ inner.outer = some_same m inner.outer (sym d.at ∙ ap (slice_get t.nodes) e ∙ inner.at) in
+          let one : m ≡ inner.outer = same_Some m inner.outer (sym d.at ∙ ap (slice_get t.nodes) e ∙ inner.at) in
           kinds_differ inner.outer.kind (subst (λ (y : Node). is_external y.kind ≡ true) one d.external) inner.derives)
       | inr init ↦
           (let e : d.part ≡ b = one_parent t unit q d.part b (in_init init.0 init.1) (as_part t unit q b inner) in
           let y = node_of t unit order d.part kind.InitDeclarator init.0 in
-          let one : y.0 ≡ inner.outer = some_same y.0 inner.outer (sym y.1.0 ∙ ap (slice_get t.nodes) e ∙ inner.at) in
+          let one : y.0 ≡ inner.outer = same_Some y.0 inner.outer (sym y.1.0 ∙ ap (slice_get t.nodes) e ∙ inner.at) in
           false≢true (ap (is_deriving t unit) (sym y.1.1 ∙ ap (λ (z : Node). z.kind) one) ∙ inner.derives))
     ]
 
@@ -93,7 +91,7 @@ module _ (t : Typed) (unit : AreOfUnit t) (order : AreListed t.nodes 0 t.items (
     no_init : (p : ℕ) → i ≡ p → scripts.kind_at t.nodes p ≡ Some kind.InitDeclarator → ⊥
     no_init p e f =
         let y = node_of t unit order p kind.InitDeclarator f in
-        let one : m ≡ y.0 = some_same m y.0 (sym d.at ∙ ap (slice_get t.nodes) e ∙ y.1.0) in
+        let one : m ≡ y.0 = same_Some m y.0 (sym d.at ∙ ap (slice_get t.nodes) e ∙ y.1.0) in
         false≢true (ap is_external (sym y.1.1 ∙ ap (λ (z : Node). z.kind) (sym one)) ∙ d.external)
 
   -- two declarations of the token are one
@@ -131,6 +129,6 @@ module _ (t : Typed) (unit : AreOfUnit t) (order : AreListed t.nodes 0 t.items (
       → role_by (storage_of t.nodes m.parts) (declarator_of t.nodes q).next ≡ role_by (storage_of t.nodes n.parts) (declarator_of t.nodes r).next
   one_role i q j r m n d e =
       let place = one_declaration i q j r m n d e in
-      let node : m ≡ n = some_same m n (sym d.at ∙ ap (slice_get t.nodes) place ∙ e.at) in
+      let node : m ≡ n = same_Some m n (sym d.at ∙ ap (slice_get t.nodes) place ∙ e.at) in
       let declarators = one_declarator i q j r m n d e in
       ap (λ (x : Node). role_by (storage_of t.nodes x.parts) (declarator_of t.nodes q).next) node ∙ ap (λ x. role_by (storage_of t.nodes n.parts) (declarator_of t.nodes x).next) declarators

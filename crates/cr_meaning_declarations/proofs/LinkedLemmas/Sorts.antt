@@ -26,14 +26,13 @@ use Rattle.cr_scopes_linkage.specs.Shared.Origins.{is_tagged, IsDeclarer, IsTold
 use Rattle.cr_scopes_linkage.proofs.SharedLemmas.Told.{all_told}
 use Rattle.cr_scopes_linkage.proofs.SharedLemmas.Shared.{sorts_apart}
 use Rattle.cr_typed.specs.declared.typed.Typed.{Typed}
-use Rattle.cr_typed_unit.specs.Typed.{IsTypedBy}
 use Rattle.cr_meaning_declarations.specs.Units.Owned.{AreOfUnit}
 use Rattle.cr_meaning_declarations.proofs.NamesLemmas.Leaves as leaves
 use Rattle.cr_meaning_declarations.specs.Declared.Files.{IsUnitOfFile}
-use Rattle.cr_meaning_declarations.proofs.DeclaredLemmas.Nodes.{of_unit}
 use Rattle.cr_meaning_declarations.specs.Linked.Laws
 use Rattle.cr_meaning_declarations.specs.Linked.Laws.{DeclaresValue}
 use Rattle.cr_meaning_declarations.proofs.LinkedLemmas.Owned.{own_there, one_role}
+use Rattle.cr_meaning_declarations.proofs.DeclaredLemmas.Files.{has_unit}
 
 -- ---- roles
 
@@ -62,7 +61,7 @@ no_tag_role NoWord Nothing = refl
 no_tag_role NoWord (Function f) = refl
 no_tag_role NoWord Other = refl
 
-tagged_same : (k : Kind) → is_tagged k ≡ true → leaves.is_tagged k ≡ true
+pub tagged_same : (k : Kind) → is_tagged k ≡ true → leaves.is_tagged k ≡ true
 tagged_same kind.StructTag h = refl
 tagged_same kind.EnumTag h = refl
 tagged_same kind.StructContent h = refl
@@ -164,19 +163,8 @@ module _ (t : Typed) (unit : AreOfUnit t) (order : AreListed t.nodes 0 t.items (
       ]
 
 module _ (file : List ℕ) (t : Typed) (it : IsUnitOfFile file t) where
-  abbrev u : AreOfUnit t
-  u = of_unit file t it
-
-  abbrev made_by : IsTypedBy file it.unit it.names it.checked.checked t
-  made_by = it.checked.by
-
-  nodes_are : it.unit.nodes ≡ t.nodes
-  nodes_are = sym made_by.elaborated.nodes_are
-
-  order_is : AreListed t.nodes 0 t.items (length t.nodes)
-  order_is =
-      subst (λ is. AreListed t.nodes 0 is (length t.nodes)) (sym made_by.elaborated.items_are)
-      (subst (λ ns. AreListed ns 0 it.unit.items (length ns)) nodes_are it.listed)
+  open it use {made_by}
+  open has_unit file t it use {unit as u, nodes_are, order as order_is}
 
   abbrev all : List Event
   all = past_of (unit_events it.unit) (length (unit_events it.unit))
@@ -188,7 +176,7 @@ module _ (file : List ℕ) (t : Typed) (it : IsUnitOfFile file t) where
   sort token = sort_of t u order_is token all told
 
   -- a token with an entity is one of the unit's
-  within : (token k : ℕ) → declared_entity it.names token ≡ Some k → token < length it.unit.tokens.list.items
+  pub within : (token k : ℕ) → declared_entity it.names token ≡ Some k → token < length it.unit.tokens.list.items
   within token k e = elim (cases_lt token (length it.unit.tokens.list.items)) [
     | inl less ↦ less
     | inr past ↦

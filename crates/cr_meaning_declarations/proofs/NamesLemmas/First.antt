@@ -1,6 +1,6 @@
 -- The first node of a unit declares nothing: it is the first word of the first external declaration, or what that word begins with.
 use Rattle.std.proofs.Common.{◌≡◌, ℕ, ◌+◌, ◌≤◌, Bool, true, false, ◌&&◌, not, List, [], ◌∷◌, Some, length, slice_get, refl, sym, subst, ap, ◌∙◌, ◌⊎◌, inl, inr, arith}
-use Rattle.std.proofs.lemmas.Bool.{and_parts, false≢true, both_ways, not-true, cases_eq}
+use Rattle.std.proofs.lemmas.Bool.{and_parts, false≢true, cases_eq}
 use Rattle.cr_syntax.specs.declared.node.Kind.{Kind}
 use Rattle.cr_syntax.specs.declared.node.Kind.TheVariants as kind
 use Rattle.cr_syntax.specs.declared.node.Node.{Node}
@@ -22,7 +22,7 @@ use Rattle.cr_syntax_nodes.specs.Laid.{stands_for, IsLaid, IsClause}
 use Rattle.cr_syntax_nodes.proofs.Laid.{laid}
 use Rattle.cr_typed.specs.declared.typed.Typed.{Typed}
 use Rattle.cr_meaning_declarations.specs.Units.Owned.{AreOfUnit, is_owner}
-use Rattle.cr_meaning_declarations.proofs.UnitsLemmas.Handing.{laid_at, counted_at}
+use Rattle.cr_meaning_declarations.proofs.UnitsLemmas.Handing.{laid_at, counted_at, against}
 
 -- ---- kinds of declarators, and parts for which none of them stands
 
@@ -44,9 +44,6 @@ declarators = kind.InitDeclarator ∷ kind.NameDeclarator ∷ kind.PointerDeclar
 
 abbrev clear : Part → Bool
 clear p = clear_of declarators p
-
-against : {A : Type 0} (b : Bool) → not b ≡ true → b ≡ true → A
-against b n e = absurd (both_ways b (not-true b n) e)
 
 clears : (p : Part) (k : Kind) → clear p ≡ true → stands_for p k ≡ true → is_declarator k ≡ false
 clears p k c s =

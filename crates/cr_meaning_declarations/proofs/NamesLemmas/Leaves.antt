@@ -1,5 +1,5 @@
 -- A declared identifier is the own name of one node: no other node is named by its token.
-use Rattle.std.proofs.Common.{◌≡◌, ◌≢◌, ℕ, ◌+◌, ◌<◌, ◌≤◌, Bool, true, false, List, [], ◌∷◌, Some, length, slice_get, slice_index, ◌⊎◌, inl, inr, refl, sym, ap, subst, ◌∙◌, arith}
+use Rattle.std.proofs.Common.{◌≡◌, ℕ, ◌+◌, ◌<◌, ◌≤◌, Bool, true, false, List, [], ◌∷◌, Some, length, slice_get, slice_index, ◌⊎◌, inl, inr, refl, sym, ap, subst, ◌∙◌, arith}
 use Rattle.std.proofs.lemmas.Bool.{cases_lt, false≢true}
 use Rattle.std.proofs.lemmas.Option.{slice_get_within}
 use Rattle.cr_syntax.specs.declared.node.Kind.{Kind}
@@ -20,12 +20,13 @@ use Rattle.cr_syntax_nodes.proofs.Numbers.{some_at, occurs}
 use Rattle.cr_typed.specs.declared.typed.Typed.{Typed}
 use Rattle.cr_meaning_declarations.specs.Units.Owned.{AreOfUnit}
 use Rattle.cr_meaning_declarations.proofs.UnitsLemmas.Handing.{laid_at}
+use Rattle.cr_scopes_linkage.specs.Shared.Origins.{is_tagged}
 
 -- what stands at one number
-same_at : (ns : List Node) (p k : ℕ) (n m : Node) → p ≡ k → slice_get ns p ≡ Some n → slice_get ns k ≡ Some m → n ≡ m
+pub same_at : (ns : List Node) (p k : ℕ) (n m : Node) → p ≡ k → slice_get ns p ≡ Some n → slice_get ns k ≡ Some m → n ≡ m
 same_at ns p k n m e at here = let is : Some n ≡ Some m = sym at ∙ ap (slice_get ns) e ∙ here in cc
 
-opened : {k : Kind} {i j a b : ℕ} {t u : Trees} → Rises i j (tree_node k a b t u) → (i ≤ a) × ((a ≤ b) × Rises b j u)
+pub opened : {k : Kind} {i j a b : ℕ} {t u : Trees} → Rises i j (tree_node k a b t u) → (i ≤ a) × ((a ≤ b) × Rises b j u)
 opened (rises_more le le' r) = (le, (le', r))
 
 none_listed : {ns : List Node} {a b : ℕ} → AreListed ns a [] b → a ≡ b
@@ -149,11 +150,11 @@ is_use kind.Call = true
 is_use kind.TypedefName = true
 is_use other = false
 
-list_first : (ts : List Lexeme) (p : Part) (k : Kind) (a b : ℕ) (t u : Trees) (i : ℕ) → AreInList ts p (tree_node k a b t u) i → a ≡ i
+pub list_first : (ts : List Lexeme) (p : Part) (k : Kind) (a b : ℕ) (t u : Trees) (i : ℕ) → AreInList ts p (tree_node k a b t u) i → a ≡ i
 list_first ts p k a b t none i h = h.1
 list_first ts p k a b t (tree_node l c d v w) i h = h.0.1
 
-header : (ts : List Lexeme) (of : Kind) (k : Kind) (a b : ℕ) (t u : Trees) (i j : ℕ) → is_named of ≡ true → IsLaid ts (side_of of) (tree_node k a b t u) i j → i + 1 < a
+pub header : (ts : List Lexeme) (of : Kind) (k : Kind) (a b : ℕ) (t u : Trees) (i j : ℕ) → is_named of ≡ true → IsLaid ts (side_of of) (tree_node k a b t u) i j → i + 1 < a
 unfolding rule_of
 header ts kind.Identifier k a b t u i j n h = absurd h.1
 header ts kind.TypedefName k a b t u i j n h = absurd h.1
@@ -169,15 +170,7 @@ header ts kind.EnumContent k a b t u i j n h = elim h.1 [
 header ts kind.Enumerator k a b t u i j n h = let e = h.1.1.0.1 in omega (arith, e)
 header ts of k a b t u i j n h = absurd (false≢true n)
 
--- a tag or a content has two tokens at the least
-abbrev pub is_tagged : Kind → Bool
-is_tagged kind.StructTag = true
-is_tagged kind.EnumTag = true
-is_tagged kind.StructContent = true
-is_tagged kind.EnumContent = true
-is_tagged other = false
-
-two_tokens : (ts : List Lexeme) (of : Kind) (u : Trees) (i j : ℕ) → is_tagged of ≡ true → IsLaid ts (side_of of) u i j → Rises i j u → i + 1 < j
+pub two_tokens : (ts : List Lexeme) (of : Kind) (u : Trees) (i j : ℕ) → is_tagged of ≡ true → IsLaid ts (side_of of) u i j → Rises i j u → i + 1 < j
 unfolding rule_of
 two_tokens ts kind.StructTag none i j n h r = let e = h.1.1 in omega (arith, e)
 two_tokens ts kind.StructTag (tree_node k a b t u) i j n h r = absurd h.1.1

@@ -22,16 +22,16 @@ use Rattle.cr_meaning_declarations.proofs.NamesLemmas.Leaves.{is_named, named_on
 
 -- ---- how often a number stands among others
 
-abbrev times : List ℕ → ℕ → ℕ
+abbrev pub times : List ℕ → ℕ → ℕ
 times ps k = count_by (λ p. p == k) ps
 
-once_more : (p k : ℕ) (ps : List ℕ) → times (p ∷ ps) k ≡ cond (p == k) 1 0 + times ps k
+pub once_more : (p k : ℕ) (ps : List ℕ) → times (p ∷ ps) k ≡ cond (p == k) 1 0 + times ps k
 once_more p k ps = sum_by-cons (λ x. cond (x == k) 1 0) p ps
 
-abbrev weight : Bool → ℕ
+abbrev pub weight : Bool → ℕ
 weight b = cond b 1 0
 
-has_it : (ps : List ℕ) (j p : ℕ) → slice_get ps j ≡ Some p → 1 ≤ times ps p
+pub has_it : (ps : List ℕ) (j p : ℕ) → slice_get ps j ≡ Some p → 1 ≤ times ps p
 has_it [] j p e = absurd cc
 has_it (q ∷ ps) zero p e =
     let same : q ≡ p = cc in
@@ -40,7 +40,7 @@ has_it (q ∷ ps) zero p e =
     omega (arith, one, more)
 has_it (q ∷ ps) (suc j) p e = let rest = has_it ps j p e in let more = once_more q p ps in omega (arith, rest, more)
 
-abbrev parts_in : List Node → List ℕ
+abbrev pub parts_in : List Node → List ℕ
 parts_in ns = flat_map (λ n. n.parts) ns
 
 beside : (n : Node) (ns : List Node) (p : ℕ) → times (parts_in (n ∷ ns)) p ≡ times n.parts p + times (parts_in ns) p

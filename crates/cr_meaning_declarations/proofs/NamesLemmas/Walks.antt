@@ -3,6 +3,7 @@ use Rattle.std.proofs.Common.{◌≡◌, ℕ, zero, suc, ◌+◌, ◌-◌, ◌<�
 use Rattle.std.specs.Prelude.{if◌then◌else◌}
 use Rattle.std.specs.List.{flat_map}
 use Rattle.std.proofs.lemmas.Bool.{false≢true, both_ways, not-true, and_parts, ltb-true}
+use Rattle.std.proofs.lemmas.Option.{same_Some}
 use Rattle.cr_tokens.specs.declared.token.Token.{Token}
 use Rattle.cr_syntax.specs.declared.node.Kind.{Kind}
 use Rattle.cr_syntax.specs.declared.node.Kind.TheVariants as kind
@@ -30,21 +31,16 @@ use Rattle.cr_scopes_events.proofs.Walks.{events_ruled}
 use Rattle.cr_scopes.specs.Looking.{depth}
 use Rattle.cr_scopes.specs.Resolved.{with_event, past_of}
 use Rattle.cr_scopes_visibility.specs.Alone.Alone.{stands_alone, IsAlone}
+use Rattle.cr_scopes_visibility.proofs.SightLemmas.Steps.{came_none, came_some}
+use Rattle.cr_scopes_visibility.proofs.SightLemmas.Walks.{taken}
 use Rattle.cr_typed.specs.declared.typed.Typed.{Typed}
 use Rattle.cr_meaning_declarations.specs.Units.Owned.{AreOfUnit}
 use Rattle.cr_meaning_declarations.proofs.UnitsLemmas.Rows.{clear_side, clear_laid, clear_at}
 use Rattle.cr_meaning_declarations.proofs.UnitsLemmas.Handing.{laid_at, parts_below}
-use Rattle.cr_meaning_declarations.proofs.NamesLemmas.Leaves.{is_tagged, is_use, no_tag, no_use}
-
-pub some_same : {A : Type 0} (x y : A) → Some x ≡ Some y → x ≡ y
-some_same x y e = cc
+use Rattle.cr_meaning_declarations.proofs.NamesLemmas.Leaves.{is_use, no_tag, no_use}
+use Rattle.cr_scopes_linkage.specs.Shared.Origins.{is_external, is_tagged}
 
 -- ---- kinds that hold external declarations, and kinds that don't
-
-abbrev pub is_external : Kind → Bool
-is_external kind.Declaration = true
-is_external kind.FunctionDefinition = true
-is_external other = false
 
 abbrev pub is_holder : Kind → Bool
 is_holder kind.Compound = true
@@ -64,7 +60,7 @@ clears test a b only p k c s = by (test k) refl
       | inr e ↦ absurd (both_ways (stands_for p b) (not-true (stands_for p b) both.1) (subst (λ (x : Kind). stands_for p x ≡ true) e s))
     ]
 
-only_external : (k : Kind) → is_external k ≡ true → (k ≡ kind.Declaration) ⊎ (k ≡ kind.FunctionDefinition)
+pub only_external : (k : Kind) → is_external k ≡ true → (k ≡ kind.Declaration) ⊎ (k ≡ kind.FunctionDefinition)
 only_external kind.Declaration h = inl refl
 only_external kind.FunctionDefinition h = inr refl
 only_external k h = absurd (false≢true h)
@@ -130,17 +126,6 @@ module _ (tok : ℕ) where
   record Came (events past : List Event) (k : ℕ) : Type 0 where
     alone : IsAlone tok past
     rest : IsGood (depth past) (drop k events)
-
-  came_none : (es : List Event) (k : ℕ) → slice_get es k ≡ None → drop (suc k) es ≡ drop k es
-  came_none [] zero e = refl
-  came_none [] (suc k) e = refl
-  came_none (x ∷ es) zero e = absurd cc
-  came_none (x ∷ es) (suc k) e = came_none es k e
-
-  came_some : (es : List Event) (k : ℕ) (x : Event) → slice_get es k ≡ Some x → drop k es ≡ x ∷ drop (suc k) es
-  came_some [] k x e = absurd cc
-  came_some (y ∷ es) zero x e = let same : y ≡ x = cc in ap (λ z. z ∷ es) same
-  came_some (y ∷ es) (suc k) x e = came_some es k x e
 
   one_came : (past : List Event) (x : Event) (rest : List Event) → IsAlone tok past → IsGood (depth past) (x ∷ rest) → IsAlone tok (x ∷ past) × IsGood (depth (x ∷ past)) rest
   one_came past event.Opens rest a g = (a, g)
@@ -278,7 +263,7 @@ module _ (tok : ℕ) where
     parts_placed d i m at holds k p e zero_is x there external =
         let row = clear_laid is_external (without kind.Declaration kind.FunctionDefinition) no_external unit.tokens (side_of m.kind) (row_in t.nodes m.parts) m.first (m.last + 1) (sides_clear m.kind holds) (laid_at t unit i m at) in
         let one = clear_at is_external (without kind.Declaration kind.FunctionDefinition) no_external t.nodes unit.below m.parts (parts_below t unit i m at) row k p e in
-        let same : one.0 ≡ x = some_same one.0 x (sym one.1.0 ∙ there) in
+        let same : one.0 ≡ x = same_Some one.0 x (sym one.1.0 ∙ there) in
         absurd (both_ways (is_external one.0.kind) one.1.1 (subst (λ (y : Node). is_external y.kind ≡ true) (sym same) external))
 
     -- those of a part that is an initialised declarator, or stands for members
@@ -288,12 +273,6 @@ module _ (tok : ℕ) where
         by : (o : Option Node) → slice_get t.nodes p ≡ o → slice_get (parts_if o) k ≡ Some q → IsPlaced d q
         by None at e = absurd cc
         by (Some m) at e = parts_placed d p m at (holds m at) k q e
-
-    taken : (m : ℕ) (ps : List ℕ) (k p : ℕ) → slice_get (take m ps) k ≡ Some p → slice_get ps k ≡ Some p
-    taken zero ps k p e = absurd cc
-    taken (suc m) [] k p e = absurd cc
-    taken (suc m) (q ∷ ps) zero p e = e
-    taken (suc m) (q ∷ ps) (suc k) p e = taken m ps k p e
 
     dropped : (ps : List ℕ) (k p : ℕ) → slice_get (drop 1 ps) k ≡ Some p → slice_get ps (suc k) ≡ Some p
     dropped [] k p e = absurd cc
@@ -359,7 +338,7 @@ module _ (tok : ℕ) where
           tags : (o : Option Node) → slice_get t.nodes p ≡ o → is_tagged x.kind ≡ true → o ≡ Some x → AreFine d (lone_tag (first_if o))
           tags None there tagged e = absurd cc
           tags (Some y) there tagged e =
-              let same : y ≡ x = some_same y x e in
+              let same : y ≡ x = same_Some y x e in
               tag_of d (y.first + 1) role.Alone true (λ f. ends_there p y there (subst (λ (z : Node). is_tagged z.kind ≡ true) (sym same) tagged) f)
 
           by : (k : Kind) → x.kind ≡ k → AreFine d (lone_specifiers t.nodes p (Some k))
@@ -375,7 +354,7 @@ module _ (tok : ℕ) where
           let F : Kind → Type 0 = λ y. clear_side is_holder (without kind.Compound kind.For) no_holder (side_of y) ≡ true in
           let row = clear_laid is_holder (without kind.Compound kind.For) no_holder unit.tokens (side_of m.kind) (row_in t.nodes m.parts) m.first (m.last + 1) (subst F (sym is_content) content_clear) (laid_at t unit i m at) in
           let one = clear_at is_holder (without kind.Compound kind.For) no_holder t.nodes unit.below m.parts (parts_below t unit i m at) row k p e in
-          let same : one.0 ≡ x = some_same one.0 x (sym one.1.0 ∙ there) in
+          let same : one.0 ≡ x = same_Some one.0 x (sym one.1.0 ∙ there) in
           subst (λ (y : Node). is_holder y.kind ≡ false) same one.1.1
 
       -- ---- all kinds

@@ -2,7 +2,7 @@
 use Rattle.std.proofs.Common.{◌≡◌, ℕ, ◌<◌, Bool, true, false, List, Option, None, Some, length, nat_lt, slice_get, slice_index_or, refl, sym, ap, subst, ◌∙◌, arith}
 use Rattle.std.specs.Prelude.{if◌then◌else◌}
 use Rattle.std.proofs.lemmas.Bool.{false≢true, eqb-true}
-use Rattle.std.proofs.lemmas.Option.{slice_get_within}
+use Rattle.std.proofs.lemmas.Option.{slice_get_within, same_Some}
 use Rattle.cr_syntax.specs.declared.node.Kind.{Kind}
 use Rattle.cr_syntax.specs.declared.node.Kind.TheVariants as kind
 use Rattle.cr_syntax.specs.declared.node.Node.{Node}
@@ -19,37 +19,35 @@ use Rattle.cr_scopes_visibility.proofs.AloneLemmas.Sight.{seen_is}
 use Rattle.cr_scopes_visibility.specs.Sight.Scopes.{is_blocklike, is_using, is_tagging, AreUnder, IsApart}
 use Rattle.cr_scopes_visibility.proofs.SightLemmas.Walks.{closed}
 use Rattle.cr_typed.specs.declared.typed.Typed.{Typed}
-use Rattle.cr_typed_columns.specs.declared.checked.CheckedColumns.{CheckedColumns}
 use Rattle.cr_typed_columns.specs.Reading.{parsed_of}
 use Rattle.cr_typed_columns.specs.Entities as entities
 use Rattle.cr_typed_columns.specs.Names as names
-use Rattle.cr_typed_unit.specs.Typed.{IsTypedBy}
 use Rattle.cr_meaning_operations.specs.Operations.{kind_if, kind_at, entity_if, entity_of}
 use Rattle.cr_meaning_declarations.specs.Units.Owned.{AreOfUnit}
-use Rattle.cr_meaning_declarations.proofs.NamesLemmas.Leaves.{is_named, is_tagged, is_use, is_word, word_once, named_once, no_tag, no_use}
-use Rattle.cr_meaning_declarations.proofs.NamesLemmas.Walks.{some_same}
+use Rattle.cr_meaning_declarations.proofs.NamesLemmas.Leaves.{is_named, is_use, is_word, word_once, named_once, no_tag, no_use}
 use Rattle.cr_meaning_declarations.specs.Declared.Files.{IsUnitOfFile}
-use Rattle.cr_meaning_declarations.proofs.DeclaredLemmas.Nodes.{of_unit}
 use Rattle.cr_meaning_declarations.proofs.DeclaredLemmas.Bodies.{listed_at, last_has}
 use Rattle.cr_meaning_declarations.proofs.DeclaredLemmas.Once.{IsAutomatic, automatic_at, alone, token_is}
 use Rattle.cr_meaning_declarations.specs.Sight.Under.{is_under}
 use Rattle.cr_meaning_declarations.specs.Sight.Laws
 use Rattle.cr_meaning_declarations.proofs.SightLemmas.Under.{directly, alike, item_outside, not_above}
 use Rattle.cr_meaning_declarations.proofs.SightLemmas.Orderly.{orderly}
+use Rattle.cr_meaning_declarations.proofs.DeclaredLemmas.Files.{has_unit}
+use Rattle.cr_scopes_linkage.specs.Shared.Origins.{is_tagged}
 
-using_used : (k : Kind) → is_using k ≡ true → is_use k ≡ true
+pub using_used : (k : Kind) → is_using k ≡ true → is_use k ≡ true
 using_used kind.Identifier h = refl
 using_used kind.Call h = refl
 using_used kind.TypedefName h = refl
 using_used k h = absurd (false≢true h)
 
-using_named : (k : Kind) → is_using k ≡ true → is_named k ≡ true
+pub using_named : (k : Kind) → is_using k ≡ true → is_named k ≡ true
 using_named kind.Identifier h = refl
 using_named kind.Call h = refl
 using_named kind.TypedefName h = refl
 using_named k h = absurd (false≢true h)
 
-tagging_tagged : (k : Kind) → is_tagging k ≡ true → is_tagged k ≡ true
+pub tagging_tagged : (k : Kind) → is_tagging k ≡ true → is_tagged k ≡ true
 tagging_tagged kind.StructTag h = refl
 tagging_tagged kind.EnumTag h = refl
 tagging_tagged kind.StructContent h = refl
@@ -94,7 +92,7 @@ module _ (t : Typed) (unit : AreOfUnit t) (order : AreListed t.nodes 0 t.items (
 
   no_enumerator : (j : ℕ) (x : Node) → slice_get t.nodes j ≡ Some x → x.kind ≡ kind.Enumerator → x.first ≡ n.first → ⊥
   no_enumerator j x at e same =
-      let one : n ≡ x = some_same n x (sym here ∙ ap (slice_get t.nodes) (one_named j x at (ap is_named e) same) ∙ at) in
+      let one : n ≡ x = same_Some n x (sym here ∙ ap (slice_get t.nodes) (one_named j x at (ap is_named e) same) ∙ at) in
       let never : kind.NameDeclarator ≡ kind.Enumerator = sym is ∙ ap (λ (y : Node). y.kind) one ∙ e in
       absurd cc
 
@@ -108,22 +106,8 @@ module _ (t : Typed) (unit : AreOfUnit t) (order : AreListed t.nodes 0 t.items (
   }
 
 module _ (file : List ℕ) (t : Typed) (it : IsUnitOfFile file t) where
-  abbrev unit : AreOfUnit t
-  unit = of_unit file t it
-
-  abbrev made_by : IsTypedBy file it.unit it.names it.checked.checked t
-  made_by = it.checked.by
-
-  abbrev columns : CheckedColumns
-  columns = made_by.columns
-
-  nodes_are : it.unit.nodes ≡ t.nodes
-  nodes_are = sym made_by.elaborated.nodes_are
-
-  order : AreListed t.nodes 0 t.items (length t.nodes)
-  order =
-      subst (λ is. AreListed t.nodes 0 is (length t.nodes)) (sym made_by.elaborated.items_are)
-      (subst (λ ns. AreListed ns 0 it.unit.items (length ns)) nodes_are it.listed)
+  open it use {made_by, columns}
+  open has_unit file t it use {unit, nodes_are, order}
 
   module _ (i e : ℕ) (m : Node) (i_at : slice_get t.nodes i ≡ Some m) (i_is : m.kind ≡ kind.Identifier) (own : IsAutomatic file t it e) where
     few_tokens : m.first < length it.unit.tokens.list.items
@@ -198,7 +182,7 @@ module _ (file : List ℕ) (t : Typed) (it : IsUnitOfFile file t) where
       by (Some first) e = sym ref ∙ e ∙ ap Some (sym (ap (λ o. entity_if o i) e))
       by None e =
           let same : entity_of t i ≡ i = ap (λ o. entity_if o i) e in
-          let one : own.node ≡ m = some_same own.node m (sym own.at ∙ ap (slice_get t.nodes) same ∙ at) in
+          let one : own.node ≡ m = same_Some own.node m (sym own.at ∙ ap (slice_get t.nodes) same ∙ at) in
           let never : kind.NameDeclarator ≡ kind.Identifier = sym own.is ∙ ap (λ (y : Node). y.kind) one ∙ is in
           absurd cc
 

@@ -1,6 +1,7 @@
 -- What the grammar gives of the nodes of a unit: a definition has three parts, and a structure's content no blocks.
 use Rattle.std.proofs.Common.{◌≡◌, ℕ, ◌+◌, ◌≤◌, ◌⊎◌, inl, inr, true, false, List, [], ◌∷◌, Some, length, slice_get, refl, sym, subst, ◌∙◌, arith}
 use Rattle.std.proofs.lemmas.Bool.{false≢true}
+use Rattle.std.proofs.lemmas.Option.{same_Some}
 use Rattle.cr_syntax.specs.declared.node.Kind.{Kind}
 use Rattle.cr_syntax.specs.declared.node.Kind.TheVariants as kind
 use Rattle.cr_syntax.specs.declared.node.Node.{Node}
@@ -19,7 +20,7 @@ use Rattle.cr_meaning_declarations.specs.Units.Owned.{AreOfUnit}
 use Rattle.cr_meaning_declarations.proofs.UnitsLemmas.Rows.{clear_side, clear_laid, clear_at}
 use Rattle.cr_meaning_declarations.proofs.UnitsLemmas.Handing.{laid_at, parts_below}
 use Rattle.cr_meaning_declarations.proofs.NamesLemmas.Parents.{part_below}
-use Rattle.cr_meaning_declarations.proofs.NamesLemmas.Walks.{some_same, without, clears}
+use Rattle.cr_meaning_declarations.proofs.NamesLemmas.Walks.{without, clears}
 
 only_block : (k : Kind) → is_blocklike k ≡ true → (k ≡ kind.Compound) ⊎ (k ≡ kind.For)
 only_block kind.Compound h = inl refl
@@ -77,7 +78,7 @@ module _ (t : Typed) (unit : AreOfUnit t) where
       let F : Kind → Type 0 = λ y. clear_side is_blocklike (without kind.Compound kind.For) no_block (side_of y) ≡ true in
       let row = clear_laid is_blocklike (without kind.Compound kind.For) no_block unit.tokens (side_of m.kind) (row_in t.nodes m.parts) m.first (m.last + 1) (subst F (sym is) content_clear) (laid_at t unit i m at) in
       let one = clear_at is_blocklike (without kind.Compound kind.For) no_block t.nodes unit.below m.parts (parts_below t unit i m at) row k p e in
-      let same : one.0 ≡ x = some_same one.0 x (sym one.1.0 ∙ there) in
+      let same : one.0 ≡ x = same_Some one.0 x (sym one.1.0 ∙ there) in
       subst (λ (y : Node). is_blocklike y.kind ≡ false) same one.1.1
 
   pub orderly : AreOrderly t.nodes

@@ -20,14 +20,12 @@ use Rattle.cr_syntax_nodes.specs.Laid.{stands_for, IsLaid}
 use Rattle.cr_typed.specs.declared.typed.Typed.{Typed}
 use Rattle.cr_typed.specs.declared.typed.Put.{Put}
 use Rattle.cr_meaning.specs.declared.op.Op.{Op}
-use Rattle.cr_meaning.specs.declared.op.Line.{Line}
 use Rattle.cr_meaning.specs.declared.op.Work.{Work}
 use Rattle.cr_meaning.specs.declared.op.Work.TheVariants as work
-use Rattle.cr_meaning_operations.specs.Operations.{kind_if, kind_at, parts_at, part_at, first_if, last_if, first_at, last_at, part_from, clause_end, clause_objects, last_part, unless_body, for_by, node_op, name_by, name_of, is_name, entity_of, is_automatic, declarators_of, is_declaration, objects_in, line_of, op_by}
+use Rattle.cr_meaning_operations.specs.Operations.{kind_at, parts_at, part_at, first_if, last_if, first_at, last_at, part_from, clause_end, clause_objects, last_part, unless_body, for_by, node_op, name_by, name_of, is_name, entity_of, is_automatic, declarators_of, is_declaration, objects_in, op_by}
 use Rattle.cr_meaning_soundness.specs.Sorts.{IsAmong}
 use Rattle.cr_meaning_soundness.specs.Scopes.{IsPart, is_open}
-use Rattle.cr_meaning_orders.specs.Owned.{objects_of, hands_on}
-use Rattle.cr_meaning_declarations.specs.Units.Owned.{declared_by, is_declared, declares, owns_by, owns, AreOfUnit, IsInitialiser, AreInitialisers, AreDeclaredOnce, is_owner}
+use Rattle.cr_meaning_declarations.specs.Units.Owned.{declared_by, is_declared, declares, owns_by, owns, AreOfUnit, AreInitialisers, AreDeclaredOnce, is_owner}
 use Rattle.cr_meaning_declarations.proofs.UnitsLemmas.Rows.{clear_side, AreClear, clear_laid, IsLoopRow, clear_first, clear_at}
 use Rattle.cr_meaning_declarations.proofs.UnitsLemmas.Handing.{without_owners, no_owners, counted_at, all_parts, part_there, is_declarator, owner_by, without_declarators, no_declarators, without_declarations, no_declarations, OwnsNone, HandsOn, silent, none_of, kind_is, parts_are, laid_at, parts_below, owned_by, owning}
 

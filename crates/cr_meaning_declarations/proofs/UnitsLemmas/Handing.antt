@@ -1,16 +1,16 @@
 -- What each kind of node hands on of declarators: an expression and a statement nothing, for their parts are neither.
-use Rattle.std.proofs.Common.{◌≡◌, ℕ, zero, suc, ◌+◌, ◌<◌, ◌≤◌, ◌==◌, Bool, true, false, ◌&&◌, not, List, [], ◌∷◌, Option, None, Some, drop, length, slice_get, refl, sym, subst, ap, ◌∙◌, ◌⊎◌, inl, inr, arith}
-use Rattle.std.specs.Prelude.{ℤ, slice_index_or, if◌then◌else◌, ◌||◌}
-use Rattle.std.proofs.lemmas.Bool.{and_parts, false≢true, both_ways, not-true, ne_eqb, eq-eqb, or_right}
+use Rattle.std.proofs.Common.{◌≡◌, ℕ, zero, suc, ◌+◌, ◌<◌, ◌≤◌, ◌==◌, Bool, true, false, ◌&&◌, not, List, [], ◌∷◌, Option, None, Some, length, slice_get, refl, sym, subst, ap, ◌∙◌, ◌⊎◌, arith}
+use Rattle.std.specs.Prelude.{ℤ, if◌then◌else◌, ◌||◌}
+use Rattle.std.proofs.lemmas.Bool.{and_parts, false≢true, both_ways, not-true, ne_eqb, or_right}
 use Rattle.std.proofs.lemmas.Option.{slice_get_within, slice_get-get_or}
 use Rattle.cr_syntax.specs.declared.node.Kind.{Kind}
 use Rattle.cr_syntax.specs.declared.node.Kind.TheVariants as kind
 use Rattle.cr_syntax.specs.declared.node.Node.{Node}
 use Rattle.cr_syntax.specs.declared.part.Part.{Part}
 use Rattle.cr_syntax.specs.declared.part.Part.TheVariants as part
-use Rattle.cr_syntax.specs.Tables.{rule_of, side_of}
+use Rattle.cr_syntax.specs.Tables.{side_of}
 use Rattle.cr_syntax.specs.Kept.{AreBelow, row_in}
-use Rattle.cr_syntax_nodes.specs.Nodes.{least, OfEachNode}
+use Rattle.cr_syntax_nodes.specs.Nodes.{least}
 use Rattle.cr_syntax_nodes.specs.Laid.{stands_for, IsLaid}
 use Rattle.cr_syntax_nodes.proofs.Made.{made_in}
 use Rattle.cr_syntax_nodes.proofs.Numbers.{occurs}
@@ -20,17 +20,15 @@ use Rattle.cr_typed.specs.declared.typed.Typed.{Typed}
 use Rattle.cr_meaning.specs.declared.op.Op.{Op}
 use Rattle.cr_meaning.specs.declared.op.Line.{Line}
 use Rattle.cr_meaning.specs.declared.op.Access.{Access}
-use Rattle.cr_meaning.specs.declared.op.Callee.{Callee}
 use Rattle.cr_meaning.specs.declared.op.Callee.TheVariants.{Function}
-use Rattle.cr_meaning.specs.declared.op.Form.{Form}
 use Rattle.cr_meaning.specs.declared.op.Work.{Work}
 use Rattle.cr_meaning.specs.declared.op.Work.TheVariants as work
-use Rattle.cr_meaning_operations.specs.Operations.{kind_if, kind_at, parts_if, parts_at, part_at, node_op, constant_by, identifier_by, address_by, callee_of, is_case, labelled, op_by, is_declaration}
+use Rattle.cr_meaning_operations.specs.Operations.{kind_if, kind_at, parts_if, parts_at, part_at, constant_by, identifier_by, is_declaration}
 use Rattle.cr_meaning_soundness.specs.Sorts.{IsAmong}
 use Rattle.cr_meaning_soundness.specs.Scopes.{IsPart, is_open}
 use Rattle.cr_meaning_orders.specs.Owned.{objects_of, hands_on}
-use Rattle.cr_meaning_declarations.specs.Units.Owned.{declared_by, is_declared, owns_by, owns, is_owner, AreOfUnit}
-use Rattle.cr_meaning_declarations.proofs.UnitsLemmas.Rows.{clear_side, AreClear, clear_laid, clear_at}
+use Rattle.cr_meaning_declarations.specs.Units.Owned.{owns_by, owns, is_owner, AreOfUnit}
+use Rattle.cr_meaning_declarations.proofs.UnitsLemmas.Rows.{clear_side, clear_laid, clear_at}
 
 -- ---- kinds of nodes with declarators of their own
 
@@ -64,7 +62,7 @@ without_declarations p = not (stands_for p kind.Declaration)
 abbrev pub without_owners : Part → Bool
 without_owners p = without_declarations p && without_declarators p
 
-against : {A : Type 0} (b : Bool) → not b ≡ true → b ≡ true → A
+pub against : {A : Type 0} (b : Bool) → not b ≡ true → b ≡ true → A
 against b n e = absurd (both_ways b (not-true b n) e)
 
 pub no_declarators : (p : Part) (k : Kind) → without_declarators p ≡ true → stands_for p k ≡ true → is_declarator k ≡ false

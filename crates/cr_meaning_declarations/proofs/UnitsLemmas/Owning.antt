@@ -1,17 +1,14 @@
 -- The rule on declarators, of a unit's program.
-use Rattle.std.proofs.Common.{◌≡◌, ℕ, zero, suc, Bool, true, false, List, [], Option, None, Some, length, slice_get, refl, sym, subst, ap, ◌∙◌, ◌⊎◌, inl, inr}
-use Rattle.std.specs.Prelude.{◌==◌, ◌||◌}
+use Rattle.std.proofs.Common.{◌≡◌, ℕ, true, [], Some, length, slice_get, refl, sym, subst, inl}
+use Rattle.std.specs.Prelude.{◌==◌}
 use Rattle.std.proofs.lemmas.Bool.{or_left, eq-eqb}
 use Rattle.cr_syntax.specs.declared.node.Kind.{Kind}
 use Rattle.cr_syntax.specs.declared.node.Kind.TheVariants as kind
 use Rattle.cr_syntax.specs.declared.node.Node.{Node}
 use Rattle.cr_typed.specs.declared.typed.Typed.{Typed}
 use Rattle.cr_meaning.specs.declared.op.Op.{Op}
-use Rattle.cr_meaning.specs.declared.op.Line.{Line}
-use Rattle.cr_meaning.specs.declared.op.Work.{Work}
 use Rattle.cr_meaning.specs.declared.op.Work.TheVariants as work
-use Rattle.cr_meaning.specs.declared.run.Limits.{Limits}
-use Rattle.cr_meaning_operations.specs.Operations.{kind_at, name_of, op_of, op_by, unit_op, program_of}
+use Rattle.cr_meaning_operations.specs.Operations.{kind_at, name_of, op_by, program_of}
 use Rattle.cr_meaning_orders.specs.Owned.{hands_on}
 use Rattle.cr_meaning_declarations.specs.Units.Owned.{owns_by, owns, AreOfUnit, AreInitialisers, AreDeclaredOnce, AreBodies}
 use Rattle.cr_meaning_declarations.specs.Units.Laws

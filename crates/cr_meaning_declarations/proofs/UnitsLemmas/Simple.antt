@@ -1,31 +1,24 @@
 -- Each kind of node: what it hands on of declarators (C11 6.5, 6.7, 6.8).
-use Rattle.std.proofs.Common.{◌≡◌, ℕ, zero, suc, ◌+◌, ◌<◌, ◌==◌, Bool, true, false, ◌&&◌, not, List, [], ◌∷◌, ◌++◌, Option, None, Some, cond, drop, length, map, slice_get, refl, sym, subst, ap, ◌∙◌, ◌⊎◌, inl, inr, arith}
-use Rattle.std.specs.Prelude.{ℤ, slice_index_or, if◌then◌else◌, ◌||◌}
-use Rattle.std.specs.List.{list_any, filter, flat_map}
-use Rattle.std.proofs.lemmas.Bool.{false≢true, both_ways, eqb-true, or_left, or_right}
+use Rattle.std.proofs.Common.{◌≡◌, ℕ, zero, suc, Bool, true, false, List, [], ◌∷◌, None, Some, length, slice_get, refl, sym, subst, ap, ◌⊎◌, inl, inr, arith}
+use Rattle.std.specs.Prelude.{slice_index_or, if◌then◌else◌}
+use Rattle.std.proofs.lemmas.Bool.{false≢true}
 use Rattle.cr_syntax.specs.declared.node.Kind.{Kind}
 use Rattle.cr_syntax.specs.declared.node.Kind.TheVariants as kind
 use Rattle.cr_syntax.specs.declared.node.Node.{Node}
 use Rattle.cr_syntax.specs.declared.part.Part.TheVariants as part
-use Rattle.cr_syntax.specs.Tables.{rule_of, side_of}
-use Rattle.cr_syntax_nodes.specs.Laid.{stands_for}
+use Rattle.cr_syntax.specs.Tables.{rule_of}
 use Rattle.cr_typed.specs.declared.typed.Typed.{Typed}
-use Rattle.cr_meaning.specs.declared.op.Op.{Op}
 use Rattle.cr_meaning.specs.declared.op.Parameter.{Parameter}
 use Rattle.cr_meaning.specs.declared.op.Callee.{Callee}
 use Rattle.cr_meaning.specs.declared.op.Callee.TheVariants.{Function}
 use Rattle.cr_meaning.specs.declared.op.Form.{Form}
-use Rattle.cr_meaning.specs.declared.op.Line.{Line}
 use Rattle.cr_meaning.specs.declared.op.Work.{Work}
 use Rattle.cr_meaning.specs.declared.op.Work.TheVariants as work
-use Rattle.cr_meaning_operations.specs.Operations.{kind_if, kind_at, parts_at, part_at, node_op, address_by, callee_of, labelled, is_case, op_by}
+use Rattle.cr_meaning_operations.specs.Operations.{kind_at, parts_at, part_at, node_op, address_by, callee_of, labelled, is_case, op_by}
 use Rattle.cr_meaning_operations.specs.Shapes.{form_of}
-use Rattle.cr_meaning_soundness.specs.Sorts.{IsAmong}
-use Rattle.cr_meaning_soundness.specs.Scopes.{IsPart, is_open}
-use Rattle.cr_meaning_orders.specs.Owned.{objects_of, hands_on}
-use Rattle.cr_meaning_declarations.specs.Units.Owned.{declared_by, is_declared, declares, owns_by, owns, AreOfUnit, AreInitialisers, AreDeclaredOnce, is_owner, IsBody, AreBodies}
-use Rattle.cr_meaning_declarations.proofs.UnitsLemmas.Rows.{clear_side}
-use Rattle.cr_meaning_declarations.proofs.UnitsLemmas.Handing.{without_owners, no_owners, OwnsNone, HandsOn, plain, leaf, bare, alone, either, constants, names, all_parts, part_there, none_of, kind_is}
+use Rattle.cr_meaning_soundness.specs.Scopes.{IsPart}
+use Rattle.cr_meaning_declarations.specs.Units.Owned.{AreOfUnit, IsBody, AreBodies}
+use Rattle.cr_meaning_declarations.proofs.UnitsLemmas.Handing.{OwnsNone, HandsOn, plain, leaf, bare, alone, either, constants, names, all_parts, part_there, none_of}
 
 module _ (t : Typed) (unit : AreOfUnit t) where
   -- ---- operands that are taken by turns

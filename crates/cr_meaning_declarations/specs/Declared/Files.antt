@@ -21,6 +21,7 @@ pub record IsUnitOfFile (file : List ℕ) (typed : Typed) : Type 0 where
   pub listed : AreListed unit.nodes 0 unit.items (length unit.nodes)
   pub known : AreUnitNames file unit names
   pub checked : IsTypedOf file unit names typed
+  pub open checked use {by as made_by, by.{tree, columns}, checked.{table as shapes, texts, whole.{typing}}}
 
 -- ---- the same before it is tested whether the unit fits
 
@@ -32,6 +33,7 @@ pub record IsAssembledFile (file : List ℕ) (typed : Typed) : Type 0 where
   pub listed : AreListed unit.nodes 0 unit.items (length unit.nodes)
   pub known : AreUnitNames file unit names
   pub checked : IsAssembledOf file unit names typed
+  pub open checked use {by as made_by, by.{tree, columns}, checked.{table as shapes, texts, whole.{typing}}}
 
 -- what has passed the test
 abbrev pub assembled : (file : List ℕ) (typed : Typed) → IsUnitOfFile file typed → IsAssembledFile file typed

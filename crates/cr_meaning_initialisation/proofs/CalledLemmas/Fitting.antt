@@ -1,5 +1,5 @@
 -- What a definition gives, and how many parameters it has, by its own declarator (C11 6.9.1p2, p7).
-use Rattle.std.proofs.Common.{◌≡◌, ℕ, zero, suc, ◌-◌, ◌<◌, inl, inr, ◌||◌, Bool, true, false, not, List, [], ◌∷◌, ◌++◌, Option, None, Some, length, map, slice_get, slice_index_or, refl, sym, subst, ap, ◌∙◌, arith, if◌then◌else◌}
+use Rattle.std.proofs.Common.{◌≡◌, ℕ, zero, suc, ◌-◌, ◌<◌, inl, inr, Bool, true, false, List, [], ◌∷◌, ◌++◌, Option, None, Some, length, map, slice_get, slice_index_or, refl, sym, subst, ap, ◌∙◌, arith, if◌then◌else◌}
 use Rattle.std.specs.Prelude.{option_to_list}
 use Rattle.std.specs.List.{list_any, flat_map}
 use Rattle.std.specs.Option.{is_some}
@@ -17,20 +17,19 @@ use Rattle.cr_scopes_bindings.specs.Last.{last_with}
 use Rattle.cr_scopes_linkage.specs.Shared.Origins.{IsDeclarer}
 use Rattle.cr_check_enclosing.specs.declared.context.Place.{Place}
 use Rattle.cr_check_types.specs.Types.{Qualified, plain, pointer as to, array, type_at}
-use Rattle.cr_check_expressions.specs.Breaks.{fault}
 use Rattle.cr_check_expressions.specs.Known.{named_row}
 use Rattle.cr_check_declarators.specs.declared.words.Class.{Class}
 use Rattle.cr_check_declarators.specs.declared.words.Specified.{Specified}
 use Rattle.cr_check_declarators.specs.declared.declarator.Declarator.{Declarator}
 use Rattle.cr_check_declarators.specs.Specifiers.{is_member}
-use Rattle.cr_check_declarators.specs.Declarators.{name_alone, may_return, is_declared, function_fault_of, open_fault_of}
+use Rattle.cr_check_declarators.specs.Declarators.{name_alone, function_fault_of, open_fault_of}
 use Rattle.cr_check_declarators.specs.Functions.{adjusted_type}
 use Rattle.cr_check_declarations.specs.Before as before
 use Rattle.cr_check_declarations.specs.Before.{Before, kind_in, parts_in, declarator_in, specified_in, type_in}
 use Rattle.cr_check_declarations.specs.Named as checked_names
 use Rattle.cr_check_declarations.specs.Named.{is_declarator, is_initialised, is_typedef, class_of, specifiers_in, declaration_of}
 use Rattle.cr_check_declarations.specs.Faults as faults
-use Rattle.cr_check_declarations.specs.Faults.{Has, has_at, fault_at, token_if, place_of, name_token, name_or, name_in, list_in, is_nameless, parameter_faults, definition_faults, declarator_faults, whole_faults, faults_in}
+use Rattle.cr_check_declarations.specs.Faults.{Has, has_at, fault_at, token_if, place_of, name_token, name_in, list_in, is_nameless, parameter_faults, definition_faults, declarator_faults, whole_faults, faults_in}
 use Rattle.cr_check_signatures.specs.Parameters.Laws.{AreParted, listed_types}
 use Rattle.cr_check_signatures.proofs.ParametersLemmas.Listed.{listed}
 use Rattle.cr_check_unit.specs.Typing.{cut, entry_at, before_in}
@@ -38,7 +37,6 @@ use Rattle.cr_check_unit.specs.Statements.{result_in}
 use Rattle.cr_check_unit.specs.Statements as statements
 use Rattle.cr_check_signatures.specs.Functions.Outlines.{head}
 use Rattle.cr_typed.specs.declared.typed.Typed.{Typed}
-use Rattle.cr_typed_columns.specs.declared.checked.CheckedColumns.{CheckedColumns}
 use Rattle.cr_typed_columns.specs.Reading.{parsed_of, entry_of, part_of}
 use Rattle.cr_typed_columns.specs.Entities as entities
 use Rattle.cr_typed_columns.specs.Functions as columns
@@ -50,18 +48,18 @@ use Rattle.cr_meaning_typing.specs.Typed.Laws.{HoldsAll}
 use Rattle.cr_meaning_typing.proofs.TypedLemmas.Worth.{unbroken}
 use Rattle.cr_meaning_typing.specs.Calls.Calls.{IsGiven}
 use Rattle.cr_meaning_typing.specs.Judged.Judged.{scene_of}
-use Rattle.cr_meaning_types.specs.Known.Shaped.{fits, IsShaped}
-use Rattle.cr_meaning_types.specs.Known.Sighted.{AreSighted}
-use Rattle.cr_meaning_types.proofs.KnownLemmas.Declaring.{declarator_holds}
+use Rattle.cr_meaning_types.specs.Known.Shaped.{fits}
+use Rattle.cr_meaning_types.proofs.KnownLemmas.Declaring.{declarator_holds, in_place as well_placed}
 use Rattle.cr_meaning_types.proofs.KnownLemmas.Naming.{holds_all, declarator_early}
 use Rattle.cr_meaning_declarations.specs.Declared.Files.{IsUnitOfFile}
 use Rattle.cr_meaning_declarations.proofs.DeclaredLemmas.Nodes.{of_unit}
 use Rattle.cr_meaning_declarations.proofs.DeclaredLemmas.Bodies.{listed_at}
 use Rattle.cr_meaning_declarations.proofs.LinkedLemmas.Owned.{HasOwn, own_there}
-use Rattle.cr_meaning_declarations.proofs.LinkedLemmas.Order.{order_of}
-use Rattle.cr_meaning_composites.proofs.ChainedLemmas.Known.{is_typing, holds, nodes_are, owned, there, IsOwned}
+use Rattle.cr_meaning_declarations.proofs.DeclaredLemmas.Files.{order_of}
+use Rattle.cr_meaning_composites.proofs.ChainedLemmas.Known.{is_typing, holds, nodes_are, owned, there, IsOwned, function_there}
 use Rattle.cr_meaning_initialisation.specs.Called.Laws
 use Rattle.cr_meaning_initialisation.proofs.CalledLemmas.Meant.{is_alike}
+use Rattle.cr_meaning_references.proofs.TreesLemmas.Shaped.{shaped}
 
 -- ---- what a function gives
 
@@ -86,7 +84,7 @@ given_sort p t row (array n a) b e g = absurd g
 
 -- ---- lists
 
-mapped_at : (f : Node → ℕ) (nodes : List Node) (i : ℕ) (n : Node) → slice_get nodes i ≡ Some n → slice_index_or (map f nodes) i 0 ≡ f n
+pub mapped_at : (f : Node → ℕ) (nodes : List Node) (i : ℕ) (n : Node) → slice_get nodes i ≡ Some n → slice_index_or (map f nodes) i 0 ≡ f n
 mapped_at f [] i n e = absurd cc
 mapped_at f (x ∷ nodes) zero n e = let same : x ≡ n = cc in ap f same
 mapped_at f (x ∷ nodes) (suc i) n e = mapped_at f nodes i n e
@@ -156,28 +154,11 @@ nodes_same nodes (Some list) =
 
 -- ---- constraints
 
--- K8
-pub well_placed : (own : Declarator) (at : Place) (typedef : Bool) (result : Qualified) → function_fault_of own at typedef result ≡ false → own.misplaced ≡ false
-well_placed own at typedef result h = by (is_some own.function) h
-  where
-    by : (b : Bool) → (if b then own.misplaced || (not (is_declared at typedef own.empty) || not (may_return result)) else own.misplaced) ≡ false → own.misplaced ≡ false
-    by true e = (or_parts own.misplaced (not (is_declared at typedef own.empty) || not (may_return result)) e).0
-    by false e = e
-
 pub function_holds : (own : Has) (b : Before) (nodes : List Node) (i : ℕ) (at : Place) (storage : Option Class) (initialised : Bool) (base : Qualified) (name : ℕ)
     → HoldsAll (declarator_faults own b nodes i at storage initialised base name) → function_fault_of own.declarator at (is_typedef storage) own.named ≡ false
 function_holds own b nodes i at storage initialised base name h =
     unbroken 8 name (function_fault_of own.declarator at (is_typedef storage) own.named)
     (fault_at 14 (open_fault_of own.declarator at storage initialised) ∷ fault_at 41 (token_if (is_member at) own.declarator.volatile) ∷ []) (λ x among. h x (inr (inr (inr among))))
-
--- K10: a body stands behind the declarator of a function, whose parameters have names
-function_there : (b : Before) (nodes : List Node) (i : ℕ) (said : Specified) (declarator function : Option ℕ) → HoldsAll (definition_faults b nodes i said declarator function) → is_some function ≡ true
-function_there b nodes i said declarator function h =
-    not-false (is_some function)
-    (unbroken 10 (name_or (name_in nodes declarator) (before.first_in nodes declarator)) (not (is_some function))
-    (fault 10 (before.first_in nodes (list_in nodes function) - 1) (list_any (is_nameless nodes) (checked_names.parameter_nodes nodes (list_in nodes function)))
-    ∷ parameter_faults b nodes i (checked_names.parameter_nodes nodes (list_in nodes function)))
-    (λ x among. h x (inr (inr among))))
 
 all_have_names : (b : Before) (nodes : List Node) (i : ℕ) (said : Specified) (declarator function : Option ℕ) → HoldsAll (definition_faults b nodes i said declarator function)
     → list_any (is_nameless nodes) (checked_names.parameter_nodes nodes (list_in nodes function)) ≡ false
@@ -185,24 +166,23 @@ all_have_names b nodes i said declarator function h =
     unbroken 10 (before.first_in nodes (list_in nodes function) - 1) (list_any (is_nameless nodes) (checked_names.parameter_nodes nodes (list_in nodes function)))
     (parameter_faults b nodes i (checked_names.parameter_nodes nodes (list_in nodes function))) (λ x among. h x (inr (inr (inr among))))
 
-module _ (file : List ℕ) (t : Typed) (it : IsUnitOfFile file t) (shaped : IsShaped it.checked.by.tree) (sighted : AreSighted it.checked.by.tree) where
-  abbrev by_columns : CheckedColumns
-  by_columns = it.checked.by.columns
+module _ (file : List ℕ) (t : Typed) (it : IsUnitOfFile file t) where
+  open it use {columns as by_columns}
 
   abbrev nodes : List Node
   nodes = it.checked.by.tree.nodes.now
 
   parted : AreParted it.checked.by.tree
   parted = record {
-    below = λ i k p n at e. (shaped.parts i n at k p e).below;
-    above = λ i k p n at e. (shaped.parts i n at k p e).above;
+    below = λ i k p n at e. ((shaped file t it).parts i n at k p e).below;
+    above = λ i k p n at e. ((shaped file t it).parts i n at k p e).above;
   }
 
   -- ---- a definition and its declarator
 
   module _ (token d q : ℕ) (m : Node) (defines : IsDeclarer t.nodes token d q m) (body : m.kind ≡ kind.FunctionDefinition) where
     here : slice_get nodes d ≡ Some m
-    here = there file t it shaped d m defines.at
+    here = there file t it d m defines.at
 
     part_second : slice_get m.parts 1 ≡ Some defines.part
     part_second = subst (λ x. slice_get m.parts (suc x) ≡ Some defines.part) (defines.first body) defines.is
@@ -211,9 +191,9 @@ module _ (file : List ℕ) (t : Typed) (it : IsUnitOfFile file t) (shaped : IsSh
     part_is = elim defines.declares [
       | inl e ↦ e
       | inr init ↦
-          (let x = shaped.parts d m here 1 defines.part part_second in
+          (let x = (shaped file t it).parts d m here 1 defines.part part_second in
           let own : is_declarator x.own.kind ≡ true = ap (λ k. fits k 1 x.own.kind) (sym body) ∙ x.fits in
-          let kind_is : Some x.own.kind ≡ Some kind.InitDeclarator = ap scripts.kind_if (sym (ap (λ ns. slice_get ns defines.part) (nodes_are file t it shaped) ∙ x.at)) ∙ init.0 in
+          let kind_is : Some x.own.kind ≡ Some kind.InitDeclarator = ap scripts.kind_if (sym (ap (λ ns. slice_get ns defines.part) (nodes_are file t it) ∙ x.at)) ∙ init.0 in
           let never : x.own.kind ≡ kind.InitDeclarator = cc in
           absurd (false≢true (ap is_declarator (sym never) ∙ own)))
     ]
@@ -245,12 +225,12 @@ module _ (file : List ℕ) (t : Typed) (it : IsUnitOfFile file t) (shaped : IsSh
     held : HoldsAll (definition_faults earlier nodes d (specified_in earlier.specified (slice_get m.parts 0)) (slice_get m.parts 1) defined_as)
     held =
         subst (λ k. HoldsAll (faults_in k (has_at it.checked.checked.table (entry_at it.checked.checked.whole.typing d).own) earlier it.checked.by.tree d m)) body
-        (holds_all it.checked.by.tree it.checked.checked.texts it.checked.checked.table it.checked.checked.whole.typing (is_typing file t it shaped) (holds file t it shaped) d m here)
+        (holds_all it.checked.by.tree it.checked.checked.texts it.checked.checked.table it.checked.checked.whole.typing (is_typing file t it) (holds file t it) d m here)
 
     same_function : defined_as ≡ own.function
     same_function =
         ap (λ (x : Declarator). x.function) (ap (declarator_in earlier.declarator) second
-        ∙ declarator_early it.checked.by.tree it.checked.checked.texts it.checked.checked.table it.checked.checked.whole.typing (is_typing file t it shaped) (holds file t it shaped) d m here q low)
+        ∙ declarator_early it.checked.by.tree it.checked.checked.texts it.checked.checked.table it.checked.checked.whole.typing (is_typing file t it) (holds file t it) d m here q low)
 
     list_is : (l : ℕ) × (own.function ≡ Some l)
     list_is = there_is own.function (ap is_some (sym same_function) ∙ function_there earlier nodes d (specified_in earlier.specified (slice_get m.parts 0)) (slice_get m.parts 1) defined_as held)
@@ -258,13 +238,13 @@ module _ (file : List ℕ) (t : Typed) (it : IsUnitOfFile file t) (shaped : IsSh
     abbrev l : ℕ
     l = list_is.0
 
-    o : IsOwned file t it shaped token d q m
-    o = owned file t it shaped token d q m defines
+    o : IsOwned file t it token d q m
+    o = owned file t it token d q m defines
 
     misplaced : own.misplaced ≡ false
     misplaced = whole (declaration_of nodes it.checked.by.tree.above.now q) o.declaration
         (declarator_holds o.node.kind (has_at it.checked.checked.table (entry_at it.checked.checked.whole.typing q).own) (before_in it.checked.checked.table (cut q it.checked.checked.whole.typing)) it.checked.by.tree q o.node o.is
-        (holds_all it.checked.by.tree it.checked.checked.texts it.checked.checked.table it.checked.checked.whole.typing (is_typing file t it shaped) (holds file t it shaped) q o.node (there file t it shaped q o.node o.at)))
+        (holds_all it.checked.by.tree it.checked.checked.texts it.checked.checked.table it.checked.checked.whole.typing (is_typing file t it) (holds file t it) q o.node (there file t it q o.node o.at)))
       where
         has : Has
         has = has_at it.checked.checked.table (entry_at it.checked.checked.whole.typing q).own
@@ -304,7 +284,7 @@ module _ (file : List ℕ) (t : Typed) (it : IsUnitOfFile file t) (shaped : IsSh
         of_token x token f g = (
           last.0,
           ap (λ o. entities.name_node (parsed_of it.unit) (entities.declared_token it.unit.nodes o)) f
-              ∙ ap (entities.name_node (parsed_of it.unit)) (ap (λ ns. (declarator_of ns x).name) (unit_nodes ∙ sym (nodes_are file t it shaped)) ∙ g)
+              ∙ ap (entities.name_node (parsed_of it.unit)) (ap (λ ns. (declarator_of ns x).name) (unit_nodes ∙ sym (nodes_are file t it)) ∙ g)
               ∙ ap (λ b. if b then last_with (entities.named_token it.unit.nodes) (length it.unit.nodes) token else None) (lt-ltb token (length it.unit.tokens.list.items) few) ∙ last.1,
         )
           where
@@ -322,7 +302,7 @@ module _ (file : List ℕ) (t : Typed) (it : IsUnitOfFile file t) (shaped : IsSh
 
             key : entities.named_token it.unit.nodes own_name.own ≡ Some token
             key =
-                ap (λ ns. entities.named_token ns own_name.own) (unit_nodes ∙ sym (nodes_are file t it shaped))
+                ap (λ ns. entities.named_token ns own_name.own) (unit_nodes ∙ sym (nodes_are file t it))
                 ∙ ap (λ o. if entities.is_name (scripts.kind_if o) then scripts.first_if o else None) own_name.at
                 ∙ ap (λ k. if entities.is_name (Some k) then Some own_name.node.first else None) own_name.is ∙ ap Some own_name.first
 
@@ -334,7 +314,7 @@ module _ (file : List ℕ) (t : Typed) (it : IsUnitOfFile file t) (shaped : IsSh
 
         of_part : (o : Option ℕ) → slice_get (parts_in nodes (Some p)) 1 ≡ o → (x : ℕ) × (faults.parameter_name nodes p ≡ Some x) → (y : ℕ) × (columns.parameter_name (parsed_of it.unit) p ≡ Some y)
         of_part None f g = let never : None ≡ Some g.0 = ap (name_in nodes) (sym f) ∙ g.1 in absurd cc
-        of_part (Some x) f g = of_token x g.0 (part_same (Some x) f) (ap (λ ns. (declarator_of ns x).name) (nodes_are file t it shaped) ∙ ap (name_in nodes) (sym f) ∙ g.1)
+        of_part (Some x) f g = of_token x g.0 (part_same (Some x) f) (ap (λ ns. (declarator_of ns x).name) (nodes_are file t it) ∙ ap (name_in nodes) (sym f) ∙ g.1)
 
     parameters_are : slice_index_or t.parameters d [] ≡ flat_map (λ p. option_to_list (columns.parameter_name (parsed_of it.unit) p)) list
     parameters_are =
@@ -360,8 +340,8 @@ module _ (file : List ℕ) (t : Typed) (it : IsUnitOfFile file t) (shaped : IsSh
     list_heads : map head (map (type_at it.checked.checked.table) (slice_index_or it.checked.checked.whole.typing.parameters q []))
         ≡ map head (listed_types it.checked.by.tree it.checked.checked.table it.checked.checked.whole.typing l)
     list_heads =
-        listed it.checked.by.tree it.checked.checked.texts it.checked.checked.table it.checked.checked.whole.typing (is_typing file t it shaped) parted q token l
-        (ap (λ ns. (declarator_of ns q).name) (sym (nodes_are file t it shaped)) ∙ defines.name) misplaced list_is.1
+        listed it.checked.by.tree it.checked.checked.texts it.checked.checked.table it.checked.checked.whole.typing (is_typing file t it) parted q token l
+        (ap (λ ns. (declarator_of ns q).name) (sym (nodes_are file t it)) ∙ defines.name) misplaced list_is.1
 
     -- so they are adjusted
     pub adjusted_at : (k : ℕ) (y : Qualified) → slice_get (map head (map (type_at it.checked.checked.table) (slice_index_or it.checked.checked.whole.typing.parameters q []))) k ≡ Some y
@@ -381,14 +361,14 @@ module _ (file : List ℕ) (t : Typed) (it : IsUnitOfFile file t) (shaped : IsSh
         ∙ as_many (type_at it.checked.checked.table) (slice_index_or it.checked.checked.whole.typing.parameters q [])
 
 pub fitting : Laws.DefinitionsFitCalls
-fitting file t it shaped sighted p i d signature stands given meant =
-    let alike = is_alike file t it shaped sighted i d signature stands meant in
+fitting file t it p i d signature stands given meant =
+    let alike = is_alike file t it i d signature stands meant in
     let look = type_at it.checked.checked.table in
     let rows = slice_index_or it.checked.checked.whole.typing.parameters meant.whole [] in
     record {
       gives = λ row. given_sort p t row signature.gives ((scene_of it.checked.by.tree it.checked.checked).gives (Some d))
-          (ap head (gives_is file t it shaped sighted meant.name d meant.whole meant.own meant.defines meant.body) ∙ alike.result) given;
+          (ap head (gives_is file t it meant.name d meant.whole meant.own meant.defines meant.body) ∙ alike.result) given;
       count =
-          count_is file t it shaped sighted meant.name d meant.whole meant.own meant.defines meant.body
+          count_is file t it meant.name d meant.whole meant.own meant.defines meant.body
           ∙ sym (as_many look rows) ∙ sym (as_many head (map look rows)) ∙ ap length alike.heads ∙ as_many head (map look alike.rows) ∙ as_many look alike.rows ∙ sym alike.count;
     }

@@ -1,45 +1,31 @@
 -- The declaration that a call sees and the definition have one outline.
-use Rattle.std.proofs.Common.{◌≡◌, ℕ, suc, inl, inr, Bool, true, false, List, [], Option, None, Some, length, map, take, slice_get, slice_index_or, refl, sym, subst, ap, ◌∙◌, arith, if◌then◌else◌}
-use Rattle.std.specs.Prelude.{ℤ}
+use Rattle.std.proofs.Common.{◌≡◌, ℕ, suc, inl, inr, Bool, true, false, List, [], Option, None, Some, length, map, take, slice_get, slice_index_or, refl, sym, subst, ap, ◌∙◌, arith}
 use Rattle.std.proofs.lemmas.Bool.{cases_lt, cases_eq, false≢true}
 use Rattle.std.proofs.lemmas.List.{get_or_past, get_or-take, length-take}
 use Rattle.cr_syntax.specs.declared.node.Kind.{Kind}
 use Rattle.cr_syntax.specs.declared.node.Kind.TheVariants as kind
 use Rattle.cr_syntax.specs.declared.node.Node.{Node}
-use Rattle.cr_syntax_order.specs.Listed.{AreListed}
 use Rattle.cr_scopes_events.specs.Declarators.{declarator_of}
 use Rattle.cr_scopes_bindings.specs.Nodes.{named_by, named_if, name_at}
 use Rattle.cr_scopes_linkage.specs.Shared.Origins.{is_external, IsDeclarer}
 use Rattle.cr_scopes_events.specs.Scripts as scripts
 use Rattle.cr_scopes_visibility.specs.Told.Told.{is_declaration, IsHeldInside, IsDeclarator}
-use Rattle.cr_check_types.specs.declared.shape.Shape.{Shape}
 use Rattle.cr_check_types.specs.Types.{Qualified, type_at}
 use Rattle.cr_check_operands.specs.Places.{found_by}
-use Rattle.cr_check_expressions.specs.declared.known.Declared.{Declared}
-use Rattle.cr_check_expressions.specs.declared.known.Declared.TheVariants.{Object, Enumerator, Function, TypeName, Unclear}
+use Rattle.cr_check_expressions.specs.declared.known.Declared.TheVariants.{Enumerator, Function, Unclear}
 use Rattle.cr_check_expressions.specs.Known.{Signature, a_function, meaning_by, declared_by as stands_by, parameters_in}
-use Rattle.cr_check_declarators.specs.declared.words.Specified.{Specified}
-use Rattle.cr_check_declarators.specs.declared.words.Class.{Class}
-use Rattle.cr_check_declarators.specs.declared.declarator.Declarator.{Declarator}
-use Rattle.cr_check_declarators.specs.declared.enumerators.Enumerated.{Enumerated}
-use Rattle.cr_check_declarations.specs.declared.tree.Tree.{Tree}
-use Rattle.cr_check_declarations.specs.Before.{kind_in}
-use Rattle.cr_check_declarations.specs.Named.{is_declarator, class_of, is_typedef, declares_name, value_by, ordinary_by, ordinary_of, names_ordinary, specifiers_in, constant_by, declared_by}
+use Rattle.cr_check_declarations.specs.Named.{is_declarator}
 use Rattle.cr_check_linkage.specs.NameTypes.{NameType, of_object, of_function, of_none, type_as}
-use Rattle.cr_check_unit.specs.declared.typing.Typing.{Typing}
 use Rattle.cr_check_unit.specs.Typing.{cut, entry_at, IsRuled, IsRuledIf}
 use Rattle.cr_check_signatures.specs.Functions.Linked.{now_at}
 use Rattle.cr_check_signatures.specs.Functions.Outlines.{head, outline}
 use Rattle.cr_check_signatures.proofs.FunctionsLemmas.Linked.{functions}
+use Rattle.cr_check_signatures.proofs.FunctionsLemmas.Chained.{row_or, declared_row}
+use Rattle.cr_check_signatures.proofs.CalleesLemmas.Callees.{IsDeclaredSo, declared_so}
 use Rattle.cr_typed.specs.declared.typed.Typed.{Typed}
-use Rattle.cr_typed_unit.specs.Typed.{IsTypedBy}
-use Rattle.cr_meaning_declarations.specs.Units.Owned.{AreOfUnit}
-use Rattle.cr_meaning_types.specs.Known.Shaped.{IsShaped}
-use Rattle.cr_meaning_types.specs.Known.Sighted.{AreSighted}
 use Rattle.cr_meaning_declarations.specs.Declared.Files.{IsUnitOfFile}
-use Rattle.cr_meaning_declarations.proofs.DeclaredLemmas.Nodes.{of_unit}
 use Rattle.cr_meaning_typing.specs.Judged.Judged.{source_of}
-use Rattle.cr_meaning_declarations.proofs.LinkedLemmas.Order.{order_of}
+use Rattle.cr_meaning_declarations.proofs.DeclaredLemmas.Files.{has_unit}
 use Rattle.cr_meaning_references.proofs.ToldLemmas.Orderly.{apart}
 use Rattle.cr_meaning_composites.specs.Chained.Laws.{DeclaresFunction}
 use Rattle.cr_meaning_composites.proofs.ChainedLemmas.Known.{is_typing, holds, owned, definition_declares}
@@ -48,53 +34,7 @@ use Rattle.cr_meaning_initialisation.specs.Called.Laws.{IsMeant}
 
 -- ---- what a name stands for as a function
 
-abbrev pub signature_of : (ℕ → Qualified) → ℕ → Bool → List ℕ → Signature
-signature_of look row more rows = record { gives = look row; count = length rows; parameter = λ k. found_by look (slice_get rows k); more = more }
-
-record IsDeclaredSo (look : ℕ → Qualified) (rows : List ℕ) (d : Declared) (s : Signature) : Type 0 where
-  row : ℕ
-  more : Bool
-  is : d ≡ Function row more
-  same : signature_of look row more rows ≡ s
-
-declared_so : (look : ℕ → Qualified) (rows : List ℕ) (d : Declared) (s : Signature) → meaning_by look rows d ≡ a_function s → IsDeclaredSo look rows d s
-declared_so look rows (Function row more) s e = record { row = row; more = more; is = refl; same = cc }
-declared_so look rows (Object row register) s e = absurd cc
-declared_so look rows (Enumerator value) s e = absurd cc
-declared_so look rows TypeName s e = absurd cc
-declared_so look rows Unclear s e = absurd cc
-
 -- ---- the row of what is declared is that of the named type
-
-abbrev row_or : ℕ → Declared → ℕ
-row_or other (Function row more) = row
-row_or other d = other
-
-keeps : (row : ℕ) (b : Bool) (x y : Declared) → row_or row x ≡ row → row_or row y ≡ row → row_or row (if b then x else y) ≡ row
-keeps row true x y h g = h
-keeps row false x y h g = g
-
-value_row : (nodes : List Node) (c : Option Class) (own : Option ℕ) (row : ℕ) → row_or row (value_by nodes c own row) ≡ row
-value_row nodes c None row = refl
-value_row nodes c (Some f) row = refl
-
-ordinary_row : (nodes : List Node) (said : ℕ → Specified) (own : Declarator) (row : ℕ) (o : Option ℕ) → row_or row (ordinary_by nodes said own row o) ≡ row
-ordinary_row nodes said own row None = refl
-ordinary_row nodes said own row (Some s) = keeps row (is_typedef (class_of (said s).storage)) TypeName (value_by nodes (class_of (said s).storage) own.function row) refl (value_row nodes (class_of (said s).storage) own.function row)
-
-constant_row : (row : ℕ) (e : Option Enumerated) → row_or row (constant_by e) ≡ row
-constant_row row None = refl
-constant_row row (Some own) = by own.value
-  where
-    by : (o : Option ℤ) → row_or row (elim o [ None ↦ Unclear | Some value ↦ Enumerator value ]) ≡ row
-    by None = refl
-    by (Some v) = refl
-
-declared_row : (k : Kind) (nodes : List Node) (said : ℕ → Specified) (own : Declarator) (row : ℕ) (e : Option Enumerated) (d : Option ℕ) → row_or row (declared_by k nodes said own row e d) ≡ row
-declared_row kind.Enumerator nodes said own row e d = constant_row row e
-declared_row k nodes said own row e d =
-    keeps row (declares_name k) (ordinary_of nodes said own row d) Unclear
-    (keeps row (names_ordinary (kind_in nodes d)) (ordinary_by nodes said own row (specifiers_in nodes d)) Unclear (ordinary_row nodes said own row (specifiers_in nodes d)) refl) refl
 
 -- ---- outlines
 
@@ -115,7 +55,7 @@ more_of of_none = false
 
 -- ---- a name of a declaration
 
-declares_kind : (k : Kind) → is_external k ≡ true → is_declaration k ≡ true
+pub declares_kind : (k : Kind) → is_external k ≡ true → is_declaration k ≡ true
 declares_kind kind.Declaration h = refl
 declares_kind kind.FunctionDefinition h = refl
 declares_kind k h = absurd (false≢true h)
@@ -124,27 +64,12 @@ named_kind : (k : Kind) (first token : ℕ) (o : Option ℕ) → is_declarator k
 named_kind kind.Enumerator first token o h e = absurd (false≢true h)
 named_kind k first token o h e = e
 
-module _ (file : List ℕ) (t : Typed) (it : IsUnitOfFile file t) (shaped : IsShaped it.checked.by.tree) (sighted : AreSighted it.checked.by.tree) where
-  abbrev made_by : IsTypedBy file it.unit it.names it.checked.checked t
-  made_by = it.checked.by
-
-  abbrev typing : Typing
-  typing = it.checked.checked.whole.typing
-
-  abbrev shapes : List Shape
-  shapes = it.checked.checked.table
+module _ (file : List ℕ) (t : Typed) (it : IsUnitOfFile file t) where
+  open it use {made_by, typing, shapes, tree}
+  open has_unit file t it use {unit as u, order}
 
   abbrev look : ℕ → Qualified
   look = type_at shapes
-
-  abbrev tree : Tree
-  tree = made_by.tree
-
-  abbrev u : AreOfUnit t
-  u = of_unit file t it
-
-  order : AreListed t.nodes 0 t.items (length t.nodes)
-  order = order_of file t it
 
   -- ---- one token is declared by one declarator
 
@@ -167,7 +92,7 @@ module _ (file : List ℕ) (t : Typed) (it : IsUnitOfFile file t) (shaped : IsSh
 
   name_is : (token i q : ℕ) (m : Node) → IsDeclarer t.nodes token i q m → name_at t.nodes q ≡ Some token
   name_is token i q m d =
-      let o = owned file t it shaped token i q m d in
+      let o = owned file t it token i q m d in
       ap (λ x. named_if x (declarator_of t.nodes q).name) o.at ∙ named_kind o.node.kind o.node.first token (declarator_of t.nodes q).name o.is d.name
 
   one_declarator : (token i q j r : ℕ) (m n : Node) → IsDeclarer t.nodes token i q m → IsDeclarer t.nodes token j r n → q ≡ r
@@ -208,13 +133,13 @@ module _ (file : List ℕ) (t : Typed) (it : IsUnitOfFile file t) (shaped : IsSh
     its = (so.row, (so.more, so.is))
 
     mine : DeclaresFunction typing q
-    mine = definition_declares file t it shaped meant.name d q meant.own meant.defines meant.body
+    mine = definition_declares file t it meant.name d q meant.own meant.defines meant.body
 
     row_is : so.row ≡ slice_index_or typing.named r 0
     row_is =
-        let is = functions tree it.checked.checked.texts shapes typing (is_typing file t it shaped) (holds file t it shaped) r so.row so.more so.is in
+        let is = functions tree it.checked.checked.texts shapes typing (is_typing file t it) (holds file t it) r so.row so.more so.is in
         let made : IsRuled tree it.checked.checked.texts shapes (cut r typing) (entry_at typing r) r is.node =
-        subst (IsRuledIf tree it.checked.checked.texts shapes (cut r typing) (entry_at typing r) r) is.at ((is_typing file t it shaped).each r) in
+        subst (IsRuledIf tree it.checked.checked.texts shapes (cut r typing) (entry_at typing r) r) is.at ((is_typing file t it).each r) in
         sym (ap (row_or (slice_index_or typing.named r 0)) (sym made.declared ∙ so.is)) ∙ declared_row is.node.kind tree.nodes.now _ _ (slice_index_or typing.named r 0) _ _
 
     alike : outline (now_at shapes typing q) ≡ outline (now_at shapes typing r)
@@ -222,7 +147,7 @@ module _ (file : List ℕ) (t : Typed) (it : IsUnitOfFile file t) (shaped : IsSh
       | inl same ↦ ap (λ p. outline (now_at shapes typing p))
           (one_declarator meant.token d q meant.declaration r meant.own meant.node (subst (λ x. IsDeclarer t.nodes x d q meant.own) same meant.defines) meant.declares)
       | inr differ ↦
-          one_outline file t it shaped sighted meant.name meant.token meant.entity d q meant.declaration r meant.own meant.node meant.defines meant.declares meant.same meant.stands mine its differ
+          one_outline file t it meant.name meant.token meant.entity d q meant.declaration r meant.own meant.node meant.defines meant.declares meant.same meant.stands mine its differ
     ]
 
     both : outline (of_function (record { result = look (slice_index_or typing.named q 0); variadic = mine.1.0; parameters = map look (slice_index_or typing.parameters q []) }))

@@ -30,7 +30,7 @@ two_maps : (xs : List (Scalar × Guard)) → map (λ own. sort_of_scalar own.0) 
 two_maps [] = refl
 two_maps (x ∷ xs) = ap (λ l. sort_of_scalar x.0 ∷ l) (two_maps xs)
 
-at_map : {A B : Type 0} (f : A → B) (xs : List A) (k : ℕ) (x : A) → slice_get xs k ≡ Some x → slice_get (map f xs) k ≡ Some (f x)
+pub at_map : {A B : Type 0} (f : A → B) (xs : List A) (k : ℕ) (x : A) → slice_get xs k ≡ Some x → slice_get (map f xs) k ≡ Some (f x)
 at_map f [] k x e = absurd cc
 at_map f (y ∷ ys) zero x e = let same : y ≡ x = cc in ap (λ z. Some (f z)) same
 at_map f (y ∷ ys) (suc k) x e = at_map f ys k x e
@@ -93,7 +93,7 @@ module _ (t : Typed) (limits : Limits) where
   cells row own at h = absurd h
 
 pub objects : Laws.ParametersFitCalls
-objects file t it shaped sighted limits i d signature stands meant passed k own e = subst (IsParameter (program_of t limits) t signature k) o.is (record {
+objects file t it limits i d signature stands meant passed k own e = subst (IsParameter (program_of t limits) t signature k) o.is (record {
   type = look row.item;
   is = alike.each k ∙ ap (found_by look) row.at;
   takes = takes t limits (slice_index_or t.named node 0) (named_type t node) (look row.item) refl same may;
@@ -106,10 +106,10 @@ objects file t it shaped sighted limits i d signature stands meant passed k own 
     look = type_at it.checked.checked.table
 
     are : AreParameters t (map look (slice_index_or it.checked.checked.whole.typing.parameters meant.whole [])) (slice_index_or t.parameters d [])
-    are = own_types file t it shaped meant.name d meant.whole meant.own meant.defines meant.body
+    are = own_types file t it meant.name d meant.whole meant.own meant.defines meant.body
 
-    alike : IsAlike file t it shaped sighted i d signature stands meant
-    alike = is_alike file t it shaped sighted i d signature stands meant
+    alike : IsAlike file t it i d signature stands meant
+    alike = is_alike file t it i d signature stands meant
 
     o : IsMapped (parameter_of t) (slice_index_or t.parameters d []) k own
     o = mapped (parameter_of t) (slice_index_or t.parameters d []) k own e
@@ -131,7 +131,7 @@ objects file t it shaped sighted limits i d signature stands meant passed k own 
     few = let w = slice_get_within alike.rows k row.item row.at in let c = alike.count in omega (arith, w, c)
 
     adjusted : (x : Qualified) × (head (look row.item) ≡ head (adjusted_type x))
-    adjusted = adjusted_at file t it shaped sighted meant.name d meant.whole meant.own meant.defines meant.body k (head (look row.item))
+    adjusted = adjusted_at file t it meant.name d meant.whole meant.own meant.defines meant.body k (head (look row.item))
         (ap (λ ts. slice_get ts k) alike.heads ∙ at_map head (map look alike.rows) k (look row.item) (at_map look alike.rows k row.item row.at))
 
     may : IsTaken (look row.item)

@@ -1,6 +1,7 @@
 -- A definition whose own parameters end in `...` would be a refused form of the grammar (C11 6.9.1).
-use Rattle.std.proofs.Common.{◌≡◌, ℕ, zero, suc, ◌+◌, ◌<◌, ◌≤◌, ◌==◌, ◌||◌, Bool, true, false, List, [], ◌∷◌, Option, None, Some, length, slice_get, slice_index_or, ◌⊎◌, inl, inr, refl, sym, ap, subst, ◌∙◌, arith, if◌then◌else◌}
+use Rattle.std.proofs.Common.{◌≡◌, ℕ, zero, suc, ◌+◌, ◌<◌, ◌≤◌, ◌==◌, Bool, true, false, List, [], ◌∷◌, Option, None, Some, length, slice_get, slice_index_or, ◌⊎◌, inl, inr, refl, sym, ap, subst, ◌∙◌, arith, if◌then◌else◌}
 use Rattle.std.proofs.lemmas.Bool.{false≢true, and_from, or_left, eq-eqb}
+use Rattle.std.proofs.lemmas.Option.{same_Some}
 use Rattle.cr_syntax.specs.declared.node.Kind.{Kind}
 use Rattle.cr_syntax.specs.declared.node.Kind.TheVariants as kind
 use Rattle.cr_syntax.specs.declared.node.Node.{Node}
@@ -27,32 +28,28 @@ use Rattle.cr_scopes_linkage.specs.Shared.Origins.{IsDeclarer}
 use Rattle.cr_check_expressions.specs.declared.known.Declared.TheVariants.{Function, TypeName, Unclear}
 use Rattle.cr_check_declarators.specs.declared.words.Class.{Class}
 use Rattle.cr_check_declarators.specs.declared.declarator.Declarator.{Declarator}
-use Rattle.cr_check_declarations.specs.declared.tree.Tree.{Tree}
 use Rattle.cr_check_declarations.specs.Before.{Before, kind_if, parts_if, kind_in, specified_in, type_in}
 use Rattle.cr_check_declarations.specs.Named.{is_declarator, class_of, is_typedef, is_initialised, is_variadic_list, is_variadic, value_by, specifiers_in, declaration_of}
 use Rattle.cr_check_declarations.specs.Faults.{Has as HasNode, has_at, place_of, name_token, whole_faults}
-use Rattle.cr_check_unit.specs.declared.typing.Typing.{Typing}
 use Rattle.cr_check_unit.specs.Typing.{cut, entry_at, before_in}
 use Rattle.cr_typed.specs.declared.typed.Typed.{Typed}
-use Rattle.cr_typed_unit.specs.Typed.{IsTypedBy}
 use Rattle.cr_meaning_typing.specs.Typed.Laws.{HoldsAll}
-use Rattle.cr_meaning_declarations.specs.Units.Owned.{AreOfUnit}
 use Rattle.cr_meaning_declarations.proofs.UnitsLemmas.Handing.{laid_at, parts_below}
-use Rattle.cr_meaning_types.specs.Known.Shaped.{fits, IsShaped}
-use Rattle.cr_meaning_types.proofs.KnownLemmas.Declaring.{declarator_holds}
+use Rattle.cr_meaning_types.specs.Known.Shaped.{fits}
+use Rattle.cr_meaning_types.proofs.KnownLemmas.Declaring.{declarator_holds, in_place as well_placed}
 use Rattle.cr_meaning_types.proofs.KnownLemmas.Naming.{holds_all}
 use Rattle.cr_meaning_declarations.specs.Declared.Files.{IsUnitOfFile}
-use Rattle.cr_meaning_declarations.proofs.DeclaredLemmas.Nodes.{of_unit, unit_tokens}
+use Rattle.cr_meaning_declarations.proofs.DeclaredLemmas.Nodes.{unit_tokens}
+use Rattle.cr_meaning_declarations.proofs.DeclaredLemmas.Files.{has_unit}
+use Rattle.cr_meaning_declarations.proofs.NamesLemmas.Leaves.{opened}
 use Rattle.cr_meaning_composites.proofs.ParametersLemmas.Lists.{good}
 use Rattle.cr_meaning_composites.proofs.ChainedLemmas.Known.{is_typing, holds, nodes_are, owned, there, definition_declares, IsOwned}
 use Rattle.cr_meaning_composites.proofs.ObjectsLemmas.Alone.{declared_is}
 use Rattle.cr_meaning_initialisation.proofs.CalledLemmas.Meant.{is_alike}
-use Rattle.cr_meaning_initialisation.proofs.CalledLemmas.Fitting.{well_placed, function_holds}
+use Rattle.cr_meaning_initialisation.proofs.CalledLemmas.Fitting.{function_holds}
 use Rattle.cr_meaning_initialisation.specs.Closed.Laws
-use Rattle.cr_meaning_initialisation.proofs.ClosedLemmas.Own.{IsOwn, opened, own_list}
-
-some_same : {A : Type 0} (x y : A) → Some x ≡ Some y → x ≡ y
-some_same x y e = cc
+use Rattle.cr_meaning_initialisation.proofs.ClosedLemmas.Own.{IsOwn, own_list}
+use Rattle.cr_meaning_references.proofs.TreesLemmas.Shaped.{shaped}
 
 -- what declares a function has the declarator of one next to its name
 function_made : (c : Bool) (nodes : List Node) (of : Option Class) (f : Option ℕ) (row x : ℕ) (more : Bool) → (if c then TypeName else value_by nodes of f row) ≡ Function x more
@@ -85,30 +82,18 @@ among_row nodes low test (p ∷ ps) below (suc k) d m e at h =
     let x = some_at nodes p (below_first p ps (length nodes) below) in
     subst (Has test) (sym (row_at nodes low p x.0 ps x.1)) (has_after (among_row nodes low test ps (below_rest p ps (length nodes) below) k d m e at h))
 
-module _ (file : List ℕ) (t : Typed) (it : IsUnitOfFile file t) (shaped : IsShaped it.checked.by.tree) (token d q k : ℕ) (m : Node) (defines : IsDeclarer t.nodes token d q m) (is : m.kind ≡ kind.FunctionDefinition) (item : slice_get t.items k ≡ Some d) where
-  abbrev unit : AreOfUnit t
-  unit = of_unit file t it
-
-  abbrev made_by : IsTypedBy file it.unit it.names it.checked.checked t
-  made_by = it.checked.by
-
-  abbrev typing : Typing
-  typing = it.checked.checked.whole.typing
-
-  abbrev tree : Tree
-  tree = made_by.tree
+module _ (file : List ℕ) (t : Typed) (it : IsUnitOfFile file t) (token d q k : ℕ) (m : Node) (defines : IsDeclarer t.nodes token d q m) (is : m.kind ≡ kind.FunctionDefinition) (item : slice_get t.items k ≡ Some d) where
+  open it use {made_by, typing, tree}
+  open has_unit file t it use {unit, nodes_are as same_nodes}
 
   abbrev ts : List Lexeme
   ts = lexemes_of file it.unit.tokens.list.items
 
-  same_nodes : it.unit.nodes ≡ t.nodes
-  same_nodes = sym made_by.elaborated.nodes_are
-
   rise : (p : ℕ) (n : Node) → slice_get t.nodes p ≡ Some n → Rises n.first (n.last + 1) (row_in t.nodes n.parts)
   rise p n at = rises (made_in unit.is_unit.spells (occurs t.nodes unit.below t.items unit.once unit.are (length t.nodes) p n (omega arith) at)).spells
 
-  o : IsOwned file t it shaped token d q m
-  o = owned file t it shaped token d q m defines
+  o : IsOwned file t it token d q m
+  o = owned file t it token d q m defines
 
   -- ---- the list next to the name
 
@@ -117,7 +102,7 @@ module _ (file : List ℕ) (t : Typed) (it : IsUnitOfFile file t) (shaped : IsSh
 
   misplaced : own.misplaced ≡ false
   misplaced = by (declaration_of tree.nodes.now tree.above.now q) o.declaration
-      (declarator_holds o.node.kind has b tree q o.node o.is (holds_all tree it.checked.checked.texts it.checked.checked.table typing (is_typing file t it shaped) (holds file t it shaped) q o.node (there file t it shaped q o.node o.at)))
+      (declarator_holds o.node.kind has b tree q o.node o.is (holds_all tree it.checked.checked.texts it.checked.checked.table typing (is_typing file t it) (holds file t it) q o.node (there file t it q o.node o.at)))
     where
       has : HasNode
       has = has_at it.checked.checked.table (entry_at typing q).own
@@ -134,13 +119,13 @@ module _ (file : List ℕ) (t : Typed) (it : IsUnitOfFile file t) (shaped : IsSh
           (name_token tree.nodes.now q (Some x)) h)
 
   named : (declarator_of tree.nodes.now q).name ≡ Some token
-  named = ap (λ ns. (declarator_of ns q).name) (sym (nodes_are file t it shaped)) ∙ defines.name
+  named = ap (λ ns. (declarator_of ns q).name) (sym (nodes_are file t it)) ∙ defines.name
 
   module _ (l : ℕ) (function : own.function ≡ Some l) where
     next : (declarator_of t.nodes q).next ≡ derivation.Function l
     next =
-        ap (λ ns. (declarator_of ns q).next) (nodes_are file t it shaped)
-        ∙ (good tree it.checked.checked.texts it.checked.checked.table typing (is_typing file t it shaped) (holds file t it shaped) shaped q token l named misplaced function).next
+        ap (λ ns. (declarator_of ns q).next) (nodes_are file t it)
+        ∙ (good tree it.checked.checked.texts it.checked.checked.table typing (is_typing file t it) (holds file t it) (shaped file t it) q token l named misplaced function).next
 
     list : IsOwn t.nodes unit.below rise o.node l
     list = own_list t.nodes unit.below rise q l token o.node o.at defines.name next
@@ -163,8 +148,8 @@ module _ (file : List ℕ) (t : Typed) (it : IsUnitOfFile file t) (shaped : IsSh
         same : (defines.part ≡ q) ⊎ ((scripts.kind_at t.nodes defines.part ≡ Some kind.InitDeclarator) × (slice_get (scripts.parts_at t.nodes defines.part) 0 ≡ Some q)) → defines.part ≡ q
         same (inl e) = e
         same (inr init) =
-            let x = shaped.parts d m (there file t it shaped d m defines.at) 1 defines.part (subst (λ x. slice_get m.parts (suc x) ≡ Some defines.part) (defines.first is) defines.is) in
-            let kind_is : Some x.own.kind ≡ Some kind.InitDeclarator = ap scripts.kind_if (sym (ap (λ ns. slice_get ns defines.part) (nodes_are file t it shaped) ∙ x.at)) ∙ init.0 in
+            let x = (shaped file t it).parts d m (there file t it d m defines.at) 1 defines.part (subst (λ x. slice_get m.parts (suc x) ≡ Some defines.part) (defines.first is) defines.is) in
+            let kind_is : Some x.own.kind ≡ Some kind.InitDeclarator = ap scripts.kind_if (sym (ap (λ ns. slice_get ns defines.part) (nodes_are file t it) ∙ x.at)) ∙ init.0 in
             let never : x.own.kind ≡ kind.InitDeclarator = cc in
             absurd (false≢true (ap is_declarator (sym never) ∙ ap (λ c. fits c 1 x.own.kind) (sym is) ∙ x.fits))
 
@@ -192,8 +177,8 @@ module _ (file : List ℕ) (t : Typed) (it : IsUnitOfFile file t) (shaped : IsSh
         let g = subst (λ u. IsLaid unit.tokens (side_of kind.FunctionDefinition) u m.first (m.last + 1)) (row_at t.nodes unit.below p x.0 (r ∷ s ∷ ps) x.1) h in
         let z = subst (λ u. IsLaid unit.tokens behind_name u (x.0.last + 1) (m.last + 1)) (row_at t.nodes unit.below r y.0 (s ∷ ps) y.1) g.1 in
         let v = subst (λ u. IsLaid unit.tokens body_side u (y.0.last + 1) (m.last + 1)) (row_at t.nodes unit.below s w.0 ps w.1) z.1 in
-        let same : r ≡ q = some_same r q f in
-        let one : y.0 ≡ o.node = some_same y.0 o.node (sym y.1 ∙ ap (slice_get t.nodes) same ∙ o.at) in
+        let same : r ≡ q = same_Some r q f in
+        let one : y.0 ≡ o.node = same_Some y.0 o.node (sym y.1 ∙ ap (slice_get t.nodes) same ∙ o.at) in
         record {
           first = p;
           rest = ps;
@@ -245,7 +230,7 @@ module _ (file : List ℕ) (t : Typed) (it : IsUnitOfFile file t) (shaped : IsSh
       v : IsVariadic
       v =
           variadic_list list.own.parts refl
-          (ap (λ w. is_variadic_list (kind_in t.nodes (slice_get (parts_if w) 1))) (sym list.at) ∙ ap (λ ns. is_variadic ns l) (nodes_are file t it shaped) ∙ variadic)
+          (ap (λ w. is_variadic_list (kind_in t.nodes (slice_get (parts_if w) 1))) (sym list.at) ∙ ap (λ ns. is_variadic ns l) (nodes_are file t it) ∙ variadic)
           (parts_below t unit l list.own list.at) (rise l list.own list.at)
 
       abbrev dots : ℕ
@@ -306,7 +291,7 @@ module _ (file : List ℕ) (t : Typed) (it : IsUnitOfFile file t) (shaped : IsSh
 
   takes_no_more : (row : ℕ) (more : Bool) → slice_index_or typing.declared q Unclear ≡ Function row more → more ≡ false
   takes_no_more row more e =
-      let f = function_made _ tree.nodes.now _ own.function (entry_at typing q).own.named row more (sym (declared_is file t it shaped d m defines.at defines.external q o.node o.at o.names o.declaration) ∙ e) in
+      let f = function_made _ tree.nodes.now _ own.function (entry_at typing q).own.named row more (sym (declared_is file t it d m defines.at defines.external q o.node o.at o.names o.declaration) ∙ e) in
       by more (f.0) f.1.0 f.1.1
     where
       by : (b : Bool) (l : ℕ) → own.function ≡ Some l → is_variadic tree.nodes.now l ≡ b → b ≡ false
@@ -314,10 +299,10 @@ module _ (file : List ℕ) (t : Typed) (it : IsUnitOfFile file t) (shaped : IsSh
       by true l function h = absurd (never l function h)
 
 pub closed : Laws.DefinitionsTakeNoMore
-closed file t it shaped token d q k m defines is item row more e = takes_no_more file t it shaped token d q k m defines is item row more e
+closed file t it token d q k m defines is item row more e = takes_no_more file t it token d q k m defines is item row more e
 
 pub calls_closed : Laws.CallsTakeNoMore
-calls_closed file t it shaped sighted i d k signature stands meant item =
-    let own = definition_declares file t it shaped meant.name d meant.whole meant.own meant.defines meant.body in
-    sym ((is_alike file t it shaped sighted i d signature stands meant).more own.0 own.1.0 own.1.1)
-    ∙ takes_no_more file t it shaped meant.name d meant.whole k meant.own meant.defines meant.body item own.0 own.1.0 own.1.1
+calls_closed file t it i d k signature stands meant item =
+    let own = definition_declares file t it meant.name d meant.whole meant.own meant.defines meant.body in
+    sym ((is_alike file t it i d signature stands meant).more own.0 own.1.0 own.1.1)
+    ∙ takes_no_more file t it meant.name d meant.whole k meant.own meant.defines meant.body item own.0 own.1.0 own.1.1

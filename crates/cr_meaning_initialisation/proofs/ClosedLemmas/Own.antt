@@ -10,7 +10,7 @@ use Rattle.cr_syntax.specs.Kept.{PartsAreBelow, row_in}
 use Rattle.cr_syntax.specs.Trees.{Trees, node as tree_node}
 use Rattle.cr_syntax.specs.Units.{own_parameters, after_first}
 use Rattle.cr_syntax.proofs.Arena.{row_at}
-use Rattle.cr_syntax_nodes.specs.Nodes.{Rises, one_more as rises_more}
+use Rattle.cr_syntax_nodes.specs.Nodes.{Rises}
 use Rattle.cr_syntax_nodes.proofs.Made.{forth}
 use Rattle.cr_syntax_nodes.proofs.Numbers.{some_at}
 use Rattle.cr_scopes_events.specs.declared.declarator.Derivation.{Derivation}
@@ -19,9 +19,7 @@ use Rattle.cr_scopes_events.specs.declared.declarator.Declarator.{Declarator}
 use Rattle.cr_scopes_events.specs.Values.{before}
 use Rattle.cr_scopes_events.specs.Declarators.{nowhere, innermost, in_first, declared_by, declared_if, declarator_of}
 use Rattle.cr_scopes_events.proofs.Descents.{declarator_ruled}
-
-pub opened : {k : Kind} {i j a b : ℕ} {t u : Trees} → Rises i j (tree_node k a b t u) → (i ≤ a) × ((a ≤ b) × Rises b j u)
-opened (rises_more le le' r) = (le, (le', r))
+use Rattle.cr_meaning_declarations.proofs.NamesLemmas.Leaves.{opened}
 
 module _ (nodes : List Node) (low : PartsAreBelow nodes) (rise : (k : ℕ) (n : Node) → slice_get nodes k ≡ Some n → Rises n.first (n.last + 1) (row_in nodes n.parts)) where
   abbrev pub tree_with : Node → Trees → Trees

@@ -1,12 +1,11 @@
 -- The initialiser of an array of unknown size asks for an element: each list in braces that has a place puts something.
-use Rattle.std.proofs.Common.{◌≡◌, ℕ, zero, suc, ◌+◌, ◌≤◌, ◌==◌, Bool, true, false, cond, ◌&&◌, List, [], ◌∷◌, ◌++◌, length, max, replicate, refl, sym, ap, subst, ◌∙◌, arith}
+use Rattle.std.proofs.Common.{◌≡◌, ℕ, zero, suc, ◌+◌, ◌≤◌, Bool, true, false, cond, ◌&&◌, List, [], ◌∷◌, ◌++◌, length, replicate, refl, sym, ap, ◌∙◌, arith}
 use Rattle.std.proofs.lemmas.Bool.{false≢true, and_parts}
-use Rattle.cr_syntax.specs.declared.ctype.CType.{CType}
 use Rattle.cr_syntax.specs.declared.ctype.CType.TheVariants.{Struct}
 use Rattle.cr_check_types.specs.Types.{Qualified, plain, pointer, array}
 use Rattle.cr_check_initialisers.specs.Known.{Known}
 use Rattle.cr_check_initialisers.specs.Places.{Place, object as object_place, laid, types_in, types_within, types_of_object, encloses, takes, is_char, begins_with_literal, opens}
-use Rattle.cr_check_initialisers.specs.Plans.{Entry, put, excess, Fills, ends, exceeds, braces, whole, elided, loses, IsPlan, by_expression, by_list, is_open, count_in, elements_before, asked, most_asked, cells_of_element, length_asked}
+use Rattle.cr_check_initialisers.specs.Plans.{Entry, put, excess, Fills, ends, exceeds, braces, whole, elided, loses, IsPlan, by_expression, by_list, is_open, count_in, elements_before, asked, most_asked, length_asked}
 use Rattle.cr_meaning_initialisation.specs.Initialised.Parts.{Every, is_aggregate}
 use Rattle.cr_meaning_initialisation.specs.Initialised.Asked.{HaveParts, HaveBytes}
 

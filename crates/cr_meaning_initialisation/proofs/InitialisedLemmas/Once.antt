@@ -1,5 +1,5 @@
 -- Each expression of an initialiser initialises one part: a node stands under one part of its list alone, and each part is read once.
-use Rattle.std.proofs.Common.{◌≡◌, ℕ, zero, suc, ◌+◌, ◌<◌, ◌≤◌, ◌==◌, inl, inr, Bool, true, false, cond, ◌||◌, List, [], ◌∷◌, ◌++◌, Option, None, Some, length, slice_get, refl, sym, subst, ap, ◌∙◌, arith}
+use Rattle.std.proofs.Common.{◌≡◌, ℕ, zero, suc, ◌+◌, ◌<◌, ◌≤◌, ◌==◌, inl, inr, Bool, true, false, ◌||◌, List, [], ◌∷◌, ◌++◌, Option, None, Some, length, slice_get, refl, sym, subst, ap, ◌∙◌, arith}
 use Rattle.std.proofs.lemmas.Bool.{false≢true, cases_lt, eqb-true, eq-eqb}
 use Rattle.std.proofs.lemmas.Option.{slice_get_within}
 use Rattle.cr_syntax.specs.declared.node.Node.{Node}
@@ -11,15 +11,12 @@ use Rattle.cr_check_initialisers.specs.Plans.{Entry, put, excess, Fills, ends, e
 use Rattle.cr_typed.specs.declared.typed.Typed.{Typed}
 use Rattle.cr_meaning_operations.specs.Operations.{parts_if, parts_at}
 use Rattle.cr_meaning_declarations.specs.Units.Owned.{AreOfUnit}
-use Rattle.cr_meaning_declarations.proofs.NamesLemmas.Parents.{IsPartOf, part_below, above_some}
+use Rattle.cr_meaning_declarations.proofs.NamesLemmas.Parents.{IsPartOf, part_below, above_some, weight}
 use Rattle.cr_meaning_declarations.specs.Sight.Under.{is_under}
 use Rattle.cr_meaning_declarations.proofs.SightLemmas.Under.{under_at, directly, not_above, outermost_outside, further}
 use Rattle.cr_meaning_initialisation.proofs.InitialisedLemmas.Twice.{one_place}
 
 -- ---- sums of tests
-
-abbrev weight : Bool → ℕ
-weight b = cond b 1 0
 
 abbrev weights : (ℕ → Bool) → List ℕ → ℕ
 weights test [] = 0
@@ -152,9 +149,6 @@ module _ (t : Typed) (unit : AreOfUnit t) (a : ℕ) where
   one_more : (xs : List Entry) (x : Entry) → all_puts (xs ++ x ∷ []) ≡ all_puts xs + puts x
   one_more [] x = omega arith
   one_more (y ∷ xs) x = let rest = one_more xs x in omega (arith, rest)
-
-  abbrev part_weight : ℕ → ℕ
-  part_weight i = weight (stands_in i a)
 
   own_weight : (i : ℕ) → weight (a == i) ≤ weight (stands_in i a)
   own_weight i = by (a == i) (is_under t i a)

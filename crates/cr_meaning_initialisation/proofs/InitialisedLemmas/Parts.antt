@@ -1,16 +1,15 @@
 -- Each initialiser of an object sets a part of it that has the cells of its type.
-use Rattle.std.proofs.Common.{◌≡◌, ℕ, zero, suc, ◌+◌, Bool, true, false, cond, List, [], ◌∷◌, ◌++◌, Option, Some, length, replicate, slice_get, refl, sym, ap, subst, ◌∙◌, arith}
+use Rattle.std.proofs.Common.{◌≡◌, ℕ, zero, suc, ◌+◌, Bool, true, false, cond, List, [], ◌∷◌, ◌++◌, Some, length, slice_get, refl, sym, ap, subst, ◌∙◌, arith}
 use Rattle.std.specs.List.{flat_map}
-use Rattle.std.proofs.lemmas.Bool.{false≢true}
 use Rattle.std.proofs.lemmas.List.{append_assoc, append-nil, length-append}
 use Rattle.cr_syntax.specs.declared.ctype.CType.{CType}
 use Rattle.cr_syntax.specs.declared.ctype.CType.TheVariants.{Struct}
 use Rattle.cr_check_types.specs.Types.{Qualified, plain, pointer, array}
 use Rattle.cr_check_initialisers.specs.Known.{Known}
-use Rattle.cr_check_initialisers.specs.Places.{Place, object as object_place, laid, types_by, types_in, types_within, types_of_object, sized as sized_as, encloses}
+use Rattle.cr_check_initialisers.specs.Places.{Place, object as object_place, laid, types_in, types_within, types_of_object, sized as sized_as, encloses}
 use Rattle.cr_check_initialisers.specs.Plans.{Entry, put, excess, Fills, ends, exceeds, braces, whole, elided, loses, IsPlan, by_expression, by_list, is_open}
 use Rattle.cr_meaning_soundness.specs.Sorts.{Sort}
-use Rattle.cr_meaning_initialisation.specs.Initialised.Parts.{Every, is_aggregate_by, is_aggregate, AreCells, IsPart, IsPlaced}
+use Rattle.cr_meaning_initialisation.specs.Initialised.Parts.{Every, is_aggregate, AreCells, IsPlaced}
 
 -- an object of known size keeps it
 same_size : (type : Qualified) (most : ℕ) → is_open type ≡ false → sized_as type most ≡ type

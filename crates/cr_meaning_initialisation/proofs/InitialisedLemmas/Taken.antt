@@ -1,5 +1,5 @@
 -- What an expression gives that breaks neither K13 nor K37 where it initialises a part of an object.
-use Rattle.std.proofs.Common.{◌≡◌, ℕ, zero, suc, Bool, true, false, not, ◌&&◌, ◌||◌, List, [], ◌∷◌, length, map, refl, sym, ap, subst, ◌∙◌}
+use Rattle.std.proofs.Common.{◌≡◌, ℕ, zero, suc, Bool, true, false, not, ◌&&◌, ◌||◌, [], ◌∷◌, length, map, refl, sym, subst}
 use Rattle.std.specs.List.{AllByRecursion}
 use Rattle.std.proofs.lemmas.Bool.{false≢true, and_parts}
 use Rattle.cr_ints.specs.declared.kind.IntKind.{IntKind}
@@ -7,12 +7,11 @@ use Rattle.cr_ints.specs.declared.kind.IntKind.TheVariants.{Char, SChar, UChar}
 use Rattle.cr_memory.specs.declared.value.Scalar.{Scalar}
 use Rattle.cr_memory.specs.declared.value.Scalar.TheVariants as scalar
 use Rattle.cr_memory.specs.declared.value.Guard.{Guard}
-use Rattle.cr_syntax.specs.declared.ctype.CType.{CType}
 use Rattle.cr_syntax.specs.declared.ctype.CType.TheVariants.{Int, Struct, Unknown}
 use Rattle.cr_typed.specs.declared.typed.Typed.{Typed}
 use Rattle.cr_check_constants.specs.declared.constant.Constant.TheVariants.{NotConstant}
 use Rattle.cr_check_types.specs.Types.{Qualified, plain, pointer as to, array, type_at}
-use Rattle.cr_check_operands.specs.Values.{Seen, value_in, value_of_seen}
+use Rattle.cr_check_operands.specs.Values.{value_in, value_of_seen}
 use Rattle.cr_check_operands.specs.Rules.{assignable}
 use Rattle.cr_check_initialisers.specs.Known.{Known}
 use Rattle.cr_check_initialisers.specs.Anchors.{is_array}
@@ -22,7 +21,7 @@ use Rattle.cr_check_initialisers.specs.Faults.{has_room, suits, is_badly_typed, 
 use Rattle.cr_meaning.specs.World.{Program}
 use Rattle.cr_meaning.specs.declared.op.Form.{Form}
 use Rattle.cr_meaning.specs.declared.run.Limits.{Limits}
-use Rattle.cr_meaning_soundness.specs.Sorts.{Sort, chars, sort_of_scalar}
+use Rattle.cr_meaning_soundness.specs.Sorts.{chars, sort_of_scalar}
 use Rattle.cr_meaning_soundness.specs.Statements.{IsCharacter}
 use Rattle.cr_meaning_operations.specs.Shapes.{form_by, form_of, guard_of, cells_with, structure_cells, repeated}
 use Rattle.cr_meaning_operations.specs.Operations.{program_of}

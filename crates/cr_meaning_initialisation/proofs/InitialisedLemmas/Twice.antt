@@ -1,32 +1,14 @@
 -- A part of a node stands in one place of it.
-use Rattle.std.proofs.Common.{◌≡◌, ℕ, zero, suc, ◌+◌, ◌<◌, ◌≤◌, ◌==◌, Bool, true, false, cond, List, [], ◌∷◌, ◌++◌, Some, length, slice_get, slice_index, sym, ap, arith}
-use Rattle.std.specs.List.{count_by, flat_map}
+use Rattle.std.proofs.Common.{◌≡◌, ℕ, zero, suc, ◌+◌, ◌<◌, ◌≤◌, ◌==◌, true, cond, List, [], ◌∷◌, ◌++◌, Some, slice_get, slice_index, ap, arith}
 use Rattle.std.proofs.lemmas.Bool.{eq-eqb}
-use Rattle.std.proofs.lemmas.List.Sums.{sum_by-append, sum_by-cons}
+use Rattle.std.proofs.lemmas.List.Sums.{sum_by-append}
 use Rattle.std.proofs.lemmas.Option.{slice_get_within, get_or_from_slice_get}
 use Rattle.cr_syntax.specs.declared.node.Node.{Node}
 use Rattle.cr_typed.specs.declared.typed.Typed.{Typed}
 use Rattle.cr_meaning_declarations.specs.Units.Owned.{AreOfUnit}
+use Rattle.cr_meaning_declarations.proofs.NamesLemmas.Parents.{times, weight, parts_in, once_more, has_it}
 
 -- ---- a number that stands twice in a list
-
-abbrev pub times : List ℕ → ℕ → ℕ
-times ps k = count_by (λ p. p == k) ps
-
-pub once_more : (p k : ℕ) (ps : List ℕ) → times (p ∷ ps) k ≡ cond (p == k) 1 0 + times ps k
-once_more p k ps = sum_by-cons (λ x. cond (x == k) 1 0) p ps
-
-abbrev pub weight : Bool → ℕ
-weight b = cond b 1 0
-
-has_it : (ps : List ℕ) (j p : ℕ) → slice_get ps j ≡ Some p → 1 ≤ times ps p
-has_it [] j p e = absurd (cc e)
-has_it (q ∷ ps) zero p e =
-    let same : q ≡ p = cc e in
-    let one : weight (q == p) ≡ weight true = ap weight (eq-eqb q p same) in
-    let more = once_more q p ps in
-    omega (arith, one, more)
-has_it (q ∷ ps) (suc j) p e = let rest = has_it ps j p e in let more = once_more q p ps in omega (arith, rest, more)
 
 has_both : (ps : List ℕ) (j k p : ℕ) → j < k → slice_get ps j ≡ Some p → slice_get ps k ≡ Some p → 2 ≤ times ps p
 has_both [] j k p less e f = absurd (cc e)
@@ -39,9 +21,6 @@ has_both (q ∷ ps) zero (suc k) p less e f =
     omega (arith, one, rest, more)
 has_both (q ∷ ps) (suc j) zero p less e f = absurd (omega (arith, less))
 has_both (q ∷ ps) (suc j) (suc k) p less e f = let rest = has_both ps j k p (omega (arith, less)) e f in let more = once_more q p ps in omega (arith, rest, more)
-
-abbrev parts_in : List Node → List ℕ
-parts_in ns = flat_map (λ n. n.parts) ns
 
 in_all : (ns : List Node) (a : ℕ) (n : Node) (p : ℕ) → slice_get ns a ≡ Some n → times n.parts p ≤ times (parts_in ns) p
 in_all [] a n p e = absurd (cc e)

@@ -17,8 +17,6 @@ use Rattle.cr_meaning_operations.specs.Operations.{parameter_of, program_of}
 use Rattle.cr_meaning_typing.specs.Typed.Good.{value_sort}
 use Rattle.cr_meaning_typing.specs.Calls.Calls.{IsGiven, IsParameter}
 use Rattle.cr_meaning_typing.specs.Judged.Judged.{source_of, scene_of}
-use Rattle.cr_meaning_types.specs.Known.Shaped.{IsShaped}
-use Rattle.cr_meaning_types.specs.Known.Sighted.{AreSighted}
 use Rattle.cr_meaning_declarations.specs.Declared.Files.{IsUnitOfFile}
 
 -- the declaration that is visible at a node and a definition declare one entity (6.2.2p2)
@@ -47,7 +45,7 @@ pub record IsFitting (file : List ℕ) (t : Typed) (it : IsUnitOfFile file t) (p
 
 -- what a call sees has the result and the parameters of the definition (K9, K10)
 abbrev pub DefinitionsFitCalls : Type 0
-DefinitionsFitCalls = (file : List ℕ) (t : Typed) (it : IsUnitOfFile file t) → IsShaped it.checked.by.tree → AreSighted it.checked.by.tree
+DefinitionsFitCalls = (file : List ℕ) (t : Typed) (it : IsUnitOfFile file t)
     → (p : Program) (i d : ℕ) (signature : Signature) → (source_of it.checked.by.tree it.checked.checked i).stands i ≡ a_function signature → IsGiven signature.gives → IsMeant file t it i d
     → IsFitting file t it p signature d
 
@@ -61,7 +59,7 @@ IsPassed type = ⊥
 
 -- and the objects of its parameters are as the call takes them (6.5.2.2p7, 6.7.6.3p15)
 abbrev pub ParametersFitCalls : Type 0
-ParametersFitCalls = (file : List ℕ) (t : Typed) (it : IsUnitOfFile file t) → IsShaped it.checked.by.tree → AreSighted it.checked.by.tree
+ParametersFitCalls = (file : List ℕ) (t : Typed) (it : IsUnitOfFile file t)
     → (limits : Limits) (i d : ℕ) (signature : Signature) → (source_of it.checked.by.tree it.checked.checked i).stands i ≡ a_function signature → IsMeant file t it i d
     → ((k : ℕ) (type : Qualified) → k < signature.count → signature.parameter k ≡ Some type → IsPassed type)
     → (k : ℕ) (own : Parameter) → slice_get (map (parameter_of t) (slice_index_or t.parameters d [])) k ≡ Some own → IsParameter (program_of t limits) t signature k own

@@ -1,5 +1,5 @@
 -- Which cells the composite type of two declarations has (C11 6.2.7p3).
-use Rattle.std.specs.Prelude.{◌≡◌, ℕ, ◌≤◌}
+use Rattle.std.specs.Prelude.{◌≡◌, ◌≤◌}
 use Rattle.cr_typed.specs.declared.typed.Typed.{Typed}
 use Rattle.cr_check_types.specs.Types.{Qualified, plain, pointer, array}
 use Rattle.cr_check_types.specs.Relations.{composite_of}

@@ -1,12 +1,11 @@
 -- A name of a place whose address is constant sees a declaration of static duration, which is that of what it stands for (C11 6.2.4p3, 6.6p9).
-use Rattle.std.proofs.Common.{◌≡◌, ℕ, zero, suc, ◌<◌, ◌≤◌, ◌⊎◌, inl, inr, Bool, true, false, ◌&&◌, ◌||◌, List, [], ◌∷◌, Option, None, Some, length, take, nat_lt, slice_get, slice_index_or, refl, sym, ap, subst, ◌∙◌, arith, if◌then◌else◌}
+use Rattle.std.proofs.Common.{◌≡◌, ℕ, zero, suc, ◌<◌, ◌≤◌, ◌⊎◌, inl, inr, Bool, true, false, ◌&&◌, List, [], ◌∷◌, Option, None, Some, length, take, nat_lt, slice_get, slice_index_or, refl, sym, ap, subst, ◌∙◌, arith, if◌then◌else◌}
 use Rattle.std.proofs.lemmas.Bool.{false≢true, and_parts, eqb-true, cases_lt}
 use Rattle.std.proofs.lemmas.List.{get_or-take, get_or_past}
 use Rattle.std.proofs.lemmas.Option.{slice_get_within}
 use Rattle.cr_syntax.specs.declared.node.Kind.{Kind}
 use Rattle.cr_syntax.specs.declared.node.Kind.TheVariants as kind
 use Rattle.cr_syntax.specs.declared.node.Node.{Node}
-use Rattle.cr_syntax_order.specs.Listed.{AreListed}
 use Rattle.cr_scopes_events.specs.Scripts as scripts
 use Rattle.cr_scopes_events.specs.declared.event.Event.{Event}
 use Rattle.cr_scopes.specs.Resolved.{is_number, past_of}
@@ -29,8 +28,7 @@ use Rattle.cr_scopes_visibility.proofs.OnceLemmas.Meaning.{meant}
 use Rattle.cr_check_enclosing.specs.declared.context.Around.{Around}
 use Rattle.cr_check_enclosing.specs.declared.context.Place.{Place}
 use Rattle.cr_check_enclosing.specs.declared.context.Place.TheVariants as place
-use Rattle.cr_check_enclosing.specs.Around.{outermost, inside}
-use Rattle.cr_check_types.specs.declared.shape.Shape.{Shape}
+use Rattle.cr_check_enclosing.specs.Around.{outermost}
 use Rattle.cr_check_types.specs.Types.{type_at}
 use Rattle.cr_check_operands.specs.Values.{Seen}
 use Rattle.cr_check_expressions.specs.declared.known.Declared.{Declared}
@@ -41,7 +39,6 @@ use Rattle.cr_check_expressions.specs.Ruled.{named_by, ruled, facts_at}
 use Rattle.cr_check_declarators.specs.declared.words.Class.{Class}
 use Rattle.cr_check_declarators.specs.declared.words.Specified.{Specified}
 use Rattle.cr_check_declarators.specs.Specifiers.{nothing}
-use Rattle.cr_check_declarations.specs.declared.tree.Tree.{Tree}
 use Rattle.cr_check_declarations.specs.Before.{specified_in}
 use Rattle.cr_check_declarations.specs.Named.{declaration_of, specifiers_in, class_of}
 use Rattle.cr_check_surroundings.specs.Named.{used_by, used_name, visible_if}
@@ -49,27 +46,24 @@ use Rattle.cr_check_surroundings.specs.Raised.{initialises, raised_by, raised_if
 use Rattle.cr_check_initialisers.specs.declared.anchor.Anchor.TheVariants.{Moving, Place as Placed}
 use Rattle.cr_check_initialised.specs.Anchors.{names_object, names_static, anchor_at, anchor_by}
 use Rattle.cr_check_initialised.specs.Durations.{is_kept_class, is_kept, is_static}
-use Rattle.cr_check_unit.specs.declared.typing.Typing.{Typing}
 use Rattle.cr_check_unit.specs.Typing.{cut, entry_at, before_in, source_in, declared_in, IsRuled, IsRuledIf}
 use Rattle.cr_check_constant_values.specs.Anchored.Anchored.{is_made, is_placed, is_anchored}
 use Rattle.cr_typed.specs.declared.typed.Typed.{Typed}
 use Rattle.cr_typed.specs.declared.typed.Duration.TheVariants as duration
-use Rattle.cr_typed_columns.specs.declared.checked.CheckedColumns.{CheckedColumns}
 use Rattle.cr_typed_columns.specs.Reading.{parsed_of, entry_of}
 use Rattle.cr_typed_columns.specs.Entities as entities
 use Rattle.cr_typed_columns.specs.Names as names
-use Rattle.cr_typed_unit.specs.Typed.{IsTypedBy}
 use Rattle.cr_meaning_operations.specs.Operations.{entity_of, is_automatic_by}
-use Rattle.cr_meaning_declarations.specs.Units.Owned.{AreOfUnit}
-use Rattle.cr_meaning_types.specs.Known.Shaped.{IsShaped}
 use Rattle.cr_meaning_declarations.specs.Declared.Files.{IsUnitOfFile}
-use Rattle.cr_meaning_declarations.proofs.DeclaredLemmas.Nodes.{of_unit}
 use Rattle.cr_meaning_declarations.proofs.DeclaredLemmas.Bodies.{listed_at, last_has}
-use Rattle.cr_meaning_declarations.proofs.DeclaredLemmas.Once.{IsAutomatic, automatic_at, alone, token_is}
+use Rattle.cr_meaning_declarations.proofs.DeclaredLemmas.Once.{IsAutomatic, automatic_at, alone, token_is, place_init}
 use Rattle.cr_meaning_declarations.proofs.SightLemmas.Names.{entity_there}
+use Rattle.cr_meaning_declarations.proofs.DeclaredLemmas.Files.{has_unit}
+use Rattle.cr_meaning_declarations.proofs.LastingLemmas.Begun.{one_of}
 use Rattle.cr_meaning_references.proofs.ToldLemmas.Orderly.{apart}
 use Rattle.cr_meaning_references.proofs.ToldLemmas.Names.{initial}
 use Rattle.cr_meaning_references.specs.Constant.Laws
+use Rattle.cr_meaning_references.proofs.TreesLemmas.Shaped.{shaped}
 
 -- ---- durations
 
@@ -100,10 +94,6 @@ static_if : (b : Bool) → is_placed (if b then Placed else Moving) ≡ true →
 static_if true h = refl
 static_if false h = absurd (false≢true h)
 
-one_of : (a b : Bool) → (a || b) ≡ true → (a ≡ true) ⊎ (b ≡ true)
-one_of true b h = inl refl
-one_of false b h = inr h
-
 -- what is known later of specifiers says no less
 kept_later : (p : Place) (c d : Option Class) → (d ≡ c) ⊎ (d ≡ None) → is_kept p d ≡ true → is_kept p c ≡ true
 kept_later p c d (inl same) h = ap (is_kept p) (sym same) ∙ h
@@ -118,44 +108,14 @@ kept_later p c d (inr none) h = by p h
     by place.Clause h = absurd (false≢true (sym (ap is_kept_class none) ∙ h))
     by p h = absurd (false≢true h)
 
-place_init : (k : Kind) (i : ℕ) (a : Around) → k ≡ kind.InitDeclarator → (inside k i a).place ≡ a.place
-unfolding inside
-place_init k i a e = ap (λ x. (inside x i a).place) e
-
 taken_few : {A : Type 0} (i : ℕ) (xs : List A) → length (take i xs) ≤ i
 taken_few zero xs = omega arith
 taken_few (suc i) [] = omega arith
 taken_few (suc i) (x ∷ xs) = let h = taken_few i xs in omega (arith, h)
 
-module _ (file : List ℕ) (t : Typed) (it : IsUnitOfFile file t) (shaped : IsShaped it.checked.by.tree) where
-  abbrev made_by : IsTypedBy file it.unit it.names it.checked.checked t
-  made_by = it.checked.by
-
-  abbrev typing : Typing
-  typing = it.checked.checked.whole.typing
-
-  abbrev shapes : List Shape
-  shapes = it.checked.checked.table
-
-  abbrev tree : Tree
-  tree = made_by.tree
-
-  abbrev columns : CheckedColumns
-  columns = made_by.columns
-
-  unit : AreOfUnit t
-  unit = of_unit file t it
-
-  nodes_are : it.unit.nodes ≡ t.nodes
-  nodes_are = sym made_by.elaborated.nodes_are
-
-  tree_nodes : tree.nodes.now ≡ t.nodes
-  tree_nodes = made_by.is.whole.tree.nodes ∙ nodes_are
-
-  order : AreListed t.nodes 0 t.items (length t.nodes)
-  order =
-      subst (λ is. AreListed t.nodes 0 is (length t.nodes)) (sym made_by.elaborated.items_are)
-      (subst (λ ns. AreListed ns 0 it.unit.items (length ns)) nodes_are it.listed)
+module _ (file : List ℕ) (t : Typed) (it : IsUnitOfFile file t) where
+  open it use {made_by, typing, shapes, tree, columns}
+  open has_unit file t it use {unit, nodes_are, tree_nodes, order}
 
   abbrev said : ℕ → Specified
   said p = slice_index_or typing.specified p nothing
@@ -177,10 +137,10 @@ module _ (file : List ℕ) (t : Typed) (it : IsUnitOfFile file t) (shaped : IsSh
 
   static_inside : (a w : ℕ) (m : Node) → slice_get tree.nodes.now a ≡ Some m → m.kind ≡ kind.InitDeclarator → slice_get m.parts 0 ≡ Some w → is_static tree said (Some a) ≡ true → is_static tree said (Some w) ≡ true
   static_inside a w m at is e h =
-      let part = shaped.parts a m at 0 w e in
+      let part = (shaped file t it).parts a m at 0 w e in
       let around : (slice_index_or tree.around.now w outermost).place ≡ (slice_index_or tree.around.now a outermost).place =
       ap (λ (x : Around). x.place) part.around ∙ place_init m.kind a (slice_index_or tree.around.now a outermost) is in
-      let declaration = shaped.initialised a w m at is e in
+      let declaration = (shaped file t it).initialised a w m at is e in
       (λ j. is_kept (around j) (class_of (specified_in said (specifiers_in tree.nodes.now (declaration j))).storage)) ∙ h
 
   -- so of the declarator alone
@@ -362,4 +322,4 @@ module _ (file : List ℕ) (t : Typed) (it : IsUnitOfFile file t) (shaped : IsSh
         by true q = absurd (never (automatic_at file t it (entity_of t i) q) once (sees_static lvalue h))
 
 pub last : Laws.AnchoredNamesLast
-last file t it shaped i n at is lvalue h once = not_automatic file t it shaped i n at is lvalue h once
+last file t it i n at is lvalue h once = not_automatic file t it i n at is lvalue h once

@@ -2,7 +2,6 @@
 use Rattle.std.proofs.Common.{◌≡◌, ℕ, zero, suc, ◌+◌, ◌<◌, ◌≤◌, ◌==◌, ◌⊎◌, inl, inr, Bool, true, false, ◌||◌, List, [], ◌∷◌, Option, None, Some, length, drop, slice_get, refl, sym, ap, subst, ◌∙◌, arith, if◌then◌else◌}
 use Rattle.std.proofs.lemmas.Bool.{false≢true, or_left, or_right, eqb-true, eq-eqb, ne_eqb}
 use Rattle.std.proofs.lemmas.Option.{slice_get_within}
-use Rattle.cr_syntax.specs.declared.node.Kind.{Kind}
 use Rattle.cr_syntax.specs.declared.node.Kind.TheVariants as kind
 use Rattle.cr_syntax.specs.declared.node.Node.{Node}
 use Rattle.cr_syntax_order.specs.Listed.{AreListed, no_node, one_more}
@@ -16,28 +15,24 @@ use Rattle.cr_scopes.specs.Units.{unit_events}
 use Rattle.cr_scopes_bindings.specs.Nodes.{named_by, named_if}
 use Rattle.cr_scopes_visibility.specs.Sight.Scopes.{is_using}
 use Rattle.cr_scopes_visibility.specs.Told.Told.{AreApart}
-use Rattle.cr_scopes_visibility.proofs.ParametersLemmas.Walks.{reaches}
 use Rattle.cr_scopes_visibility.specs.Once.Told.{count_of, weight_of, AreWeights}
 use Rattle.cr_scopes_visibility.proofs.OnceLemmas.Counting.{told_once}
+use Rattle.cr_scopes_visibility.proofs.SightLemmas.Reaching.{reaches}
 use Rattle.cr_check_enclosing.specs.Above.{above_of}
 use Rattle.cr_typed.specs.declared.typed.Typed.{Typed}
-use Rattle.cr_typed_unit.specs.Typed.{IsTypedBy}
-use Rattle.cr_meaning_declarations.specs.Units.Owned.{AreOfUnit}
-use Rattle.cr_meaning_declarations.proofs.NamesLemmas.Leaves.{is_use, no_use}
+use Rattle.cr_meaning_declarations.proofs.NamesLemmas.Leaves.{no_use}
 use Rattle.cr_meaning_declarations.proofs.NamesLemmas.Parents.{IsPartOf, part_below, no_item, above_some}
 use Rattle.cr_meaning_declarations.specs.Declared.Files.{IsUnitOfFile}
-use Rattle.cr_meaning_declarations.proofs.DeclaredLemmas.Nodes.{of_unit}
 use Rattle.cr_meaning_declarations.specs.Sight.Under.{is_under}
 use Rattle.cr_meaning_declarations.proofs.SightLemmas.Under.{under_at, directly, further, not_above, outermost_outside}
+use Rattle.cr_meaning_declarations.proofs.DeclaredLemmas.Files.{has_unit}
+use Rattle.cr_meaning_declarations.proofs.LinkedLemmas.Order.{forth}
+use Rattle.cr_meaning_declarations.proofs.SightLemmas.Names.{using_used as used_same}
 use Rattle.cr_meaning_references.proofs.ToldLemmas.Orderly.{apart}
 use Rattle.cr_meaning_references.specs.Constant.Outside.{leads, IsOutside}
 use Rattle.cr_meaning_references.specs.Constant.Laws
 
 -- ---- numbers that rise along a list
-
-forth : {ns : List Node} {from end : ℕ} {ps : List ℕ} → AreListed ns from ps end → from ≤ end
-forth no_node = omega arith
-forth (one_more at below rest) = let x = forth below in let y = forth rest in omega (arith, x, y)
 
 pub risen : {ns : List Node} {from end : ℕ} {ps : List ℕ} → AreListed ns from ps end → (k q : ℕ) → slice_get ps k ≡ Some q → from ≤ q
 risen no_node k q e = absurd cc
@@ -52,26 +47,9 @@ other : (b c : Bool) → (b || c) ≡ true → (b ≡ true) ⊎ (c ≡ true)
 other true c h = inl refl
 other false c h = inr h
 
-used_same : (k : Kind) → is_using k ≡ true → is_use k ≡ true
-used_same kind.Identifier h = refl
-used_same kind.Call h = refl
-used_same kind.TypedefName h = refl
-used_same k h = absurd (false≢true h)
-
 module _ (file : List ℕ) (t : Typed) (it : IsUnitOfFile file t) (i : ℕ) (n : Node) (at : slice_get t.nodes i ≡ Some n) (using : is_using n.kind ≡ true) (outside : IsOutside t i) where
-  unit : AreOfUnit t
-  unit = of_unit file t it
-
-  abbrev made_by : IsTypedBy file it.unit it.names it.checked.checked t
-  made_by = it.checked.by
-
-  nodes_are : it.unit.nodes ≡ t.nodes
-  nodes_are = sym made_by.elaborated.nodes_are
-
-  order : AreListed t.nodes 0 t.items (length t.nodes)
-  order =
-      subst (λ is. AreListed t.nodes 0 is (length t.nodes)) (sym made_by.elaborated.items_are)
-      (subst (λ ns. AreListed ns 0 it.unit.items (length ns)) nodes_are it.listed)
+  open it use {made_by}
+  open has_unit file t it use {unit, nodes_are, order}
 
   are_apart : AreApart t.nodes
   are_apart = apart t unit order

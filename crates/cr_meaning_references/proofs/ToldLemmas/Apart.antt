@@ -1,23 +1,22 @@
 -- Nodes with a name of their own have different tokens: what is below such a node begins behind its name.
 use Rattle.std.proofs.Common.{◌≡◌, ℕ, ◌+◌, ◌<◌, ◌≤◌, true, List, [], ◌∷◌, Some, length, slice_get, slice_index, inl, inr, refl, sym, ap, subst, ◌∙◌, arith}
-use Rattle.std.proofs.lemmas.Bool.{cases_lt, false≢true}
+use Rattle.std.proofs.lemmas.Bool.{cases_lt}
 use Rattle.std.proofs.lemmas.Option.{slice_get_within}
 use Rattle.cr_syntax.specs.declared.node.Kind.{Kind}
 use Rattle.cr_syntax.specs.declared.node.Kind.TheVariants as kind
 use Rattle.cr_syntax.specs.declared.node.Node.{Node}
-use Rattle.cr_syntax.specs.declared.part.Part.{Part}
-use Rattle.cr_syntax.specs.declared.part.Part.TheVariants as part
 use Rattle.cr_syntax.specs.Words.{Lexeme}
-use Rattle.cr_syntax.specs.Tables.{rule_of, side_of}
+use Rattle.cr_syntax.specs.Tables.{side_of}
 use Rattle.cr_syntax.specs.Kept.{PartsAreBelow, row_in}
-use Rattle.cr_syntax.specs.Trees.{Trees, none, node as tree_node}
+use Rattle.cr_syntax.specs.Trees.{node as tree_node}
 use Rattle.cr_syntax.proofs.Arena.{row_at}
 use Rattle.cr_syntax_order.specs.Listed.{AreListed, no_node, one_more}
 use Rattle.cr_syntax_nodes.specs.Nodes.{Rises, one_more as rises_more}
-use Rattle.cr_syntax_nodes.specs.Laid.{IsLaid, AreInList}
+use Rattle.cr_syntax_nodes.specs.Laid.{IsLaid}
 use Rattle.cr_syntax_nodes.proofs.Made.{forth}
 use Rattle.cr_syntax_nodes.proofs.Numbers.{some_at}
-use Rattle.cr_meaning_declarations.proofs.NamesLemmas.Leaves.{is_named, is_tagged}
+use Rattle.cr_meaning_declarations.proofs.NamesLemmas.Leaves.{is_named, same_at, opened, two_tokens, header as behind_name}
+use Rattle.cr_scopes_linkage.specs.Shared.Origins.{is_tagged}
 
 -- the token of a node's own name: a tag is the second one
 abbrev pub own_token : Kind → ℕ → ℕ
@@ -34,49 +33,7 @@ own_at kind.StructContent first = (omega arith, omega arith)
 own_at kind.EnumContent first = (omega arith, omega arith)
 own_at k first = (omega arith, omega arith)
 
-same_at : (ns : List Node) (p k : ℕ) (n m : Node) → p ≡ k → slice_get ns p ≡ Some n → slice_get ns k ≡ Some m → n ≡ m
-same_at ns p k n m e at here = let is : Some n ≡ Some m = sym at ∙ ap (slice_get ns) e ∙ here in cc
-
-opened : {k : Kind} {i j a b : ℕ} {t u : Trees} → Rises i j (tree_node k a b t u) → (i ≤ a) × ((a ≤ b) × Rises b j u)
-opened (rises_more le le' r) = (le, (le', r))
-
 -- ---- kinds with a name
-
-list_first : (ts : List Lexeme) (p : Part) (k : Kind) (a b : ℕ) (t u : Trees) (i : ℕ) → AreInList ts p (tree_node k a b t u) i → a ≡ i
-list_first ts p k a b t none i h = h.1
-list_first ts p k a b t (tree_node l c d v w) i h = h.0.1
-
--- their parts begin behind the second token
-behind_name : (ts : List Lexeme) (of : Kind) (k : Kind) (a b : ℕ) (t u : Trees) (i j : ℕ) → is_named of ≡ true → IsLaid ts (side_of of) (tree_node k a b t u) i j → i + 1 < a
-unfolding rule_of
-behind_name ts kind.Identifier k a b t u i j n h = absurd h.1
-behind_name ts kind.TypedefName k a b t u i j n h = absurd h.1
-behind_name ts kind.NameDeclarator k a b t u i j n h = absurd h.1
-behind_name ts kind.StructTag k a b t u i j n h = absurd h.1.1
-behind_name ts kind.EnumTag k a b t u i j n h = absurd h.1.1
-behind_name ts kind.Call k a b t u i j n h = let e = list_first ts part.Assignment k a b t u (i + 1 + 1) h.1.1.0 in omega (arith, e)
-behind_name ts kind.StructContent k a b t u i j n h = elim h.1 [ inl x ↦ (let e = x.1.0.1 in omega (arith, e)) | inr x ↦ (let e = x.1.1.0.1 in omega (arith, e)) ]
-behind_name ts kind.EnumContent k a b t u i j n h = elim h.1 [
-  | inl x ↦ (let e = list_first ts part.Enumerator k a b t u (i + 1 + 1) x.1.0 in omega (arith, e))
-  | inr x ↦ (let e = list_first ts part.Enumerator k a b t u (i + 1 + 1 + 1) x.1.1.0 in omega (arith, e))
-]
-behind_name ts kind.Enumerator k a b t u i j n h = let e = h.1.1.0.1 in omega (arith, e)
-behind_name ts of k a b t u i j n h = absurd (false≢true n)
-
--- and a tag or a content has two at the least
-two_tokens : (ts : List Lexeme) (of : Kind) (u : Trees) (i j : ℕ) → is_tagged of ≡ true → IsLaid ts (side_of of) u i j → Rises i j u → i + 1 < j
-unfolding rule_of
-two_tokens ts kind.StructTag none i j n h r = let e = h.1.1 in omega (arith, e)
-two_tokens ts kind.StructTag (tree_node k a b t u) i j n h r = absurd h.1.1
-two_tokens ts kind.EnumTag none i j n h r = let e = h.1.1 in omega (arith, e)
-two_tokens ts kind.EnumTag (tree_node k a b t u) i j n h r = absurd h.1.1
-two_tokens ts kind.StructContent none i j n h r = elim h.1 [ inl x ↦ absurd x.1 | inr x ↦ absurd x.1.1 ]
-two_tokens ts kind.StructContent (tree_node k a b t u) i j n h r =
-    let less = behind_name ts kind.StructContent k a b t u i j refl h in let o = opened r in let more = o.1.0 in let end = forth o.1.1 in omega (arith, less, more, end)
-two_tokens ts kind.EnumContent none i j n h r = elim h.1 [ inl x ↦ absurd x.1.0 | inr x ↦ absurd x.1.1.0 ]
-two_tokens ts kind.EnumContent (tree_node k a b t u) i j n h r =
-    let less = behind_name ts kind.EnumContent k a b t u i j refl h in let o = opened r in let more = o.1.0 in let end = forth o.1.1 in omega (arith, less, more, end)
-two_tokens ts of u i j n h r = absurd (false≢true n)
 
 -- ---- nodes of a unit
 

@@ -25,7 +25,6 @@ use Rattle.cr_check_constant_values.proofs.SpelledLemmas.Integers.{integers}
 use Rattle.cr_check_constant_values.proofs.SpelledLemmas.Characters.{characters}
 use Rattle.cr_check_expressions.specs.Forms.{form_of}
 use Rattle.cr_check_expressions.specs.Known.{spelling_if, spelling_of}
-use Rattle.cr_check_declarations.specs.declared.tree.Tree.{Tree}
 use Rattle.cr_typed.specs.declared.typed.Typed.{Typed}
 use Rattle.cr_meaning_typing.specs.Typed.Typing.{IsThere}
 use Rattle.cr_meaning_types.specs.Known.Sighted.{IsSpelled}
@@ -103,8 +102,7 @@ module _ (file : List ℕ) (t : Typed) (it : IsAssembledFile file t) where
   abbrev tokens : List Token
   tokens = it.unit.tokens.list.items
 
-  abbrev u : Tree
-  u = it.checked.by.tree
+  open it use {tree as u}
 
   spelling_is : (k : ℕ) (own : Token) → slice_get tokens k ≡ Some own → spelling_of u.file.now u.tokens.now k ≡ slice_range file own.start own.end
   spelling_is k own e =

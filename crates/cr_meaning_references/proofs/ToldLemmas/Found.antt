@@ -12,8 +12,6 @@ use Rattle.cr_scopes_visibility.specs.Tagged.Tagged.{AreTagsApart}
 use Rattle.cr_scopes_visibility.specs.Told.Told.{IsEnumerator, AreApart}
 use Rattle.cr_check_enclosing.specs.Above.{above_of}
 use Rattle.cr_typed.specs.declared.typed.Typed.{Typed}
-use Rattle.cr_typed_columns.specs.Reading.{parsed_of}
-use Rattle.cr_typed_columns.specs.Columns.{IsElaborated}
 use Rattle.cr_meaning_types.specs.Known.Sighted.{is_use}
 use Rattle.cr_meaning_declarations.specs.Units.Owned.{AreOfUnit}
 use Rattle.cr_meaning_declarations.proofs.NamesLemmas.Parents.{part_below, above_is}
@@ -31,9 +29,6 @@ using kind.TypedefName h = refl
 using k h = absurd (false≢true h)
 
 module _ (file : List ℕ) (t : Typed) (it : IsAssembledFile file t) where
-  made : IsElaborated file (parsed_of it.unit) it.checked.checked.texts it.checked.by.columns t
-  made = it.checked.by.elaborated
-
   unit : AreOfUnit t
   unit = unit_of file t it
 

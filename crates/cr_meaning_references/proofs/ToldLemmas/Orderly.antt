@@ -1,7 +1,7 @@
 -- What the grammar gives of the names of a unit's nodes.
 use Rattle.std.proofs.Common.{◌≡◌, ℕ, zero, suc, ◌+◌, ◌<◌, ◌⊎◌, inl, inr, Bool, true, false, ◌&&◌, not, List, [], ◌∷◌, Option, None, Some, length, nat_lt, slice_get, slice_index, refl, sym, ap, subst, ◌∙◌, if◌then◌else◌, arith}
 use Rattle.std.proofs.lemmas.Bool.{false≢true, and_parts, ltb-true, not_from_true}
-use Rattle.std.proofs.lemmas.Option.{slice_get_within}
+use Rattle.std.proofs.lemmas.Option.{slice_get_within, same_Some}
 use Rattle.cr_tokens.specs.declared.token.Token.{Token}
 use Rattle.cr_syntax.specs.declared.node.Kind.{Kind}
 use Rattle.cr_syntax.specs.declared.node.Kind.TheVariants as kind
@@ -35,18 +35,11 @@ use Rattle.cr_meaning_declarations.proofs.UnitsLemmas.Rows.{clear_side, clear_la
 use Rattle.cr_meaning_declarations.proofs.UnitsLemmas.Handing.{laid_at, parts_below}
 use Rattle.cr_meaning_declarations.proofs.NamesLemmas.Leaves.{is_named}
 use Rattle.cr_meaning_declarations.proofs.NamesLemmas.Parents.{part_below, one_parent, is_deriving, IsInside, as_part, whole_is}
+use Rattle.cr_meaning_declarations.proofs.SightLemmas.Names.{using_named}
 use Rattle.cr_meaning_references.proofs.ToldLemmas.Apart.{own_token, own_within, one_name}
-
-some_same : {A : Type 0} (x y : A) → Some x ≡ Some y → x ≡ y
-some_same x y e = cc
+use Rattle.cr_scopes_typedef_names.specs.Tellings.Tellings.{is_enumerator}
 
 -- ---- kinds
-
-using_named : (k : Kind) → is_using k ≡ true → is_named k ≡ true
-using_named kind.Identifier h = refl
-using_named kind.Call h = refl
-using_named kind.TypedefName h = refl
-using_named k h = absurd (false≢true h)
 
 using_own : (k : Kind) (first : ℕ) → is_using k ≡ true → own_token k first ≡ first
 using_own kind.Identifier first h = refl
@@ -121,11 +114,6 @@ content_untagged : clear_side is_tagging untagged no_tag (side_of kind.StructCon
 unfolding rule_of
 content_untagged = refl
 
--- nor enumerators
-abbrev is_enumerator : Kind → Bool
-is_enumerator kind.Enumerator = true
-is_enumerator k = false
-
 abbrev unenumerated : Part → Bool
 unenumerated p = not (stands_for p kind.Enumerator)
 
@@ -157,7 +145,7 @@ module _ (t : Typed) (unit : AreOfUnit t) (listed : AreListed t.nodes 0 t.items 
       one_name unit.tokens t.nodes unit.below (λ i x at. (unit.within i x at).0) (λ i x at. laid_at t unit i x at) rise_at listed (rises unit.is_unit.spells) k l m n here there a b same
 
   kinds_same : (k l : ℕ) (m n : Node) → slice_get t.nodes k ≡ Some m → slice_get t.nodes l ≡ Some n → k ≡ l → m.kind ≡ n.kind
-  kinds_same k l m n here there same = ap (λ (x : Node). x.kind) (some_same m n (sym here ∙ ap (slice_get t.nodes) same ∙ there))
+  kinds_same k l m n here there same = ap (λ (x : Node). x.kind) (same_Some m n (sym here ∙ ap (slice_get t.nodes) same ∙ there))
 
   uses : (i j : ℕ) (m n : Node) → slice_get t.nodes i ≡ Some m → slice_get t.nodes j ≡ Some n → is_using m.kind ≡ true → is_using n.kind ≡ true → m.first ≡ n.first → i ≡ j
   uses i j m n here there a b same = one i j m n here there (using_named m.kind a) (using_named n.kind b) (using_own m.kind m.first a ∙ same ∙ sym (using_own n.kind n.first b))
@@ -325,7 +313,7 @@ module _ (t : Typed) (unit : AreOfUnit t) (listed : AreListed t.nodes 0 t.items 
       let F : Kind → Type 0 = λ y. clear_side is_using unused no_use (side_of y) ≡ true in
       let row = clear_laid is_using unused no_use unit.tokens (side_of m.kind) (row_in t.nodes m.parts) m.first (m.last + 1) (subst F (sym is) content_clear) (laid_at t unit i m at) in
       let found = clear_at is_using unused no_use t.nodes unit.below m.parts (parts_below t unit i m at) row k p e in
-      let same : found.0 ≡ x = some_same found.0 x (sym found.1.0 ∙ there) in
+      let same : found.0 ≡ x = same_Some found.0 x (sym found.1.0 ∙ there) in
       subst (λ (y : Node). is_using y.kind ≡ false) same found.1.1
 
   -- ---- definitions: specifiers, a declarator and a body
@@ -358,7 +346,7 @@ module _ (t : Typed) (unit : AreOfUnit t) (listed : AreListed t.nodes 0 t.items 
           → IsLaid unit.tokens behind_body (row_in t.nodes ps) (o.last + 1) j → stands_for part.Compound x.kind ≡ true
       by zero e rest same o at stands b l =
           let is : r ≡ s = cc in
-          let node : o ≡ x = some_same o x (sym at ∙ ap (slice_get t.nodes) is ∙ there) in
+          let node : o ≡ x = same_Some o x (sym at ∙ ap (slice_get t.nodes) is ∙ there) in
           subst (λ (y : Node). stands_for part.Compound y.kind ≡ true) node stands
       by (suc k) e [] same o at stands b l = let none : None ≡ Some s = sym (ap (λ zs. slice_get zs k) same) ∙ e in absurd cc
       by (suc k) e (z ∷ rest) same o at stands b l =
@@ -402,7 +390,7 @@ module _ (t : Typed) (unit : AreOfUnit t) (listed : AreListed t.nodes 0 t.items 
       let F : Kind → Type 0 = λ y. clear_side is_enumerator unenumerated no_enumerator (side_of y) ≡ true in
       let row = clear_laid is_enumerator unenumerated no_enumerator unit.tokens (side_of m.kind) (row_in t.nodes m.parts) m.first (m.last + 1) (subst F (sym is) initialised_clear) (laid_at t unit a m at) in
       let found = clear_at is_enumerator unenumerated no_enumerator t.nodes unit.below m.parts (parts_below t unit a m at) row 0 p e in
-      let same : found.0 ≡ own.node = some_same found.0 own.node (sym found.1.0 ∙ own.at) in
+      let same : found.0 ≡ own.node = same_Some found.0 own.node (sym found.1.0 ∙ own.at) in
       false≢true (sym found.1.1 ∙ ap (λ (y : Node). is_enumerator y.kind) same ∙ ap is_enumerator own.is)
 
   pub apart : AreApart t.nodes
@@ -464,7 +452,7 @@ module _ (t : Typed) (unit : AreOfUnit t) (listed : AreListed t.nodes 0 t.items 
       let F : Kind → Type 0 = λ y. clear_side is_tagging untagged no_tag (side_of y) ≡ true in
       let row = clear_laid is_tagging untagged no_tag unit.tokens (side_of m.kind) (row_in t.nodes m.parts) m.first (m.last + 1) (subst F (sym is) content_untagged) (laid_at t unit i m at) in
       let found = clear_at is_tagging untagged no_tag t.nodes unit.below m.parts (parts_below t unit i m at) row k p e in
-      let same : found.0 ≡ x = some_same found.0 x (sym found.1.0 ∙ there) in
+      let same : found.0 ≡ x = same_Some found.0 x (sym found.1.0 ∙ there) in
       subst (λ (y : Node). is_tagging y.kind ≡ false) same found.1.1
 
   tag_bodies : (i k p : ℕ) (m x : Node) → slice_get t.nodes i ≡ Some m → m.kind ≡ kind.FunctionDefinition → slice_get m.parts (suc (suc k)) ≡ Some p → slice_get t.nodes p ≡ Some x → is_tagging x.kind ≡ false

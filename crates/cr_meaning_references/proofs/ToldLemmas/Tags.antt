@@ -1,8 +1,8 @@
 -- A tag finds one that is declared: the first token that declares what it stands for is a node's tag.
-use Rattle.std.proofs.Common.{◌≡◌, ℕ, zero, suc, ◌+◌, ◌<◌, ◌≤◌, ◌&&◌, ◌⊎◌, inl, inr, Bool, true, false, List, [], ◌∷◌, ◌++◌, Option, None, Some, length, slice_get, slice_index_or, refl, sym, ap, subst, ◌∙◌, if◌then◌else◌, arith}
+use Rattle.std.proofs.Common.{◌≡◌, ℕ, zero, suc, ◌+◌, ◌<◌, ◌&&◌, ◌⊎◌, inl, inr, Bool, true, false, List, [], ◌∷◌, ◌++◌, Option, None, Some, length, slice_get, slice_index_or, refl, sym, ap, subst, ◌∙◌, if◌then◌else◌, arith}
 use Rattle.std.specs.Option.{is_some}
 use Rattle.std.proofs.lemmas.Bool.{false≢true, eq-eqb, cases_lt, lt-ltb}
-use Rattle.std.proofs.lemmas.Option.{slice_get_within}
+use Rattle.std.proofs.lemmas.Option.{slice_get_within, same_Some}
 use Rattle.cr_tokens.specs.declared.token.Token.{Token}
 use Rattle.cr_syntax.specs.declared.node.Kind.{Kind}
 use Rattle.cr_syntax.specs.declared.node.Kind.TheVariants as kind
@@ -23,7 +23,7 @@ use Rattle.cr_scopes.specs.Resolved.{told, begins, count_of, number_of, with_tok
 use Rattle.cr_scopes.specs.Spelled.{name_of}
 use Rattle.cr_scopes.specs.Units.{unit_events, AreUnitNames}
 use Rattle.cr_scopes_visibility.proofs.AloneLemmas.Telling.{AreRight, all_right}
-use Rattle.cr_scopes_visibility.proofs.AloneLemmas.First.{one_number, number_is, number_same, told_there}
+use Rattle.cr_scopes_visibility.proofs.AloneLemmas.First.{one_number, number_is, number_same, told_there, rises}
 use Rattle.cr_scopes_bindings.specs.Last.{last_with}
 use Rattle.cr_scopes_bindings.specs.Nodes.{tag_by, tag_if, tag_at}
 use Rattle.cr_scopes_bindings.specs.Entities.{entity_within, entity_at, first_in, first_if, first_of}
@@ -37,9 +37,6 @@ use Rattle.cr_check_surroundings.specs.declared.surroundings.Surroundings.{Surro
 use Rattle.cr_check_surroundings.specs.Surroundings.{AreSurroundings, IsTree}
 use Rattle.cr_check_surroundings.specs.Named.{tag_with, tag_if as tag_known}
 use Rattle.cr_meaning_types.specs.Known.Sighted.{is_tagged}
-
-some_same : {A : Type 0} (x y : A) → Some x ≡ Some y → x ≡ y
-some_same x y e = cc
 
 -- ---- columns
 
@@ -56,17 +53,6 @@ last_some key (suc i) k p low e = by (λ less. last_some key i k p less e) (is_n
     ]
 
 -- ---- entities
-
-one_if : (b : Bool) (n : ℕ) → n ≤ (if b then n + 1 else n)
-one_if true n = omega arith
-one_if false n = omega arith
-
-rises : (at : ℕ → Option Told) (a b : ℕ) → a ≤ b → count_of at a ≤ count_of at b
-rises at a zero le = let e : a ≡ 0 = omega (arith, le) in subst (λ x. count_of at x ≤ count_of at 0) (sym e) (omega arith)
-rises at a (suc b) le = elim (cases_lt b a) [
-  | inl more ↦ (let e : a ≡ suc b = omega (arith, le, more) in subst (λ x. count_of at x ≤ count_of at (suc b)) (sym e) (omega arith))
-  | inr less ↦ (let x = rises at a b less in let y = one_if (begins (at b) b) (count_of at b) in omega (arith, x, y))
-]
 
 -- a token that begins an entity is counted
 counted : (at : ℕ → Option Told) (a bound : ℕ) → begins (at a) a ≡ true → a < bound → count_of at a < count_of at bound
@@ -252,7 +238,7 @@ module _ (file : List ℕ) (unit : source.Unit) (names : Names) (s : Surrounding
       same_first : told_first.what.first ≡ it.what.first
       same_first =
           let x = number_is at (at there.0) k told_first.number in
-          let one : x.0 ≡ told_first.what = some_same x.0 told_first.what (sym x.1.0 ∙ told_first.is) in
+          let one : x.0 ≡ told_first.what = same_Some x.0 told_first.what (sym x.1.0 ∙ told_first.is) in
           sym (ap (λ (y : Told). y.first) one) ∙ one_number at x.0.first it.what.first x.1.1.0 begin x.1.1.1
 
       tag_first : IsTagOfNode ks unit.nodes there.0

@@ -13,11 +13,11 @@ use Rattle.cr_scopes_bindings.specs.Nodes.{named_if, named_by, name_at}
 use Rattle.cr_scopes_bindings.specs.Visible.{visible}
 use Rattle.cr_scopes_visibility.specs.Sight.Scopes.{is_using, is_tagging}
 use Rattle.cr_scopes_visibility.specs.Told.Told as told
-use Rattle.cr_scopes_typedef_names.specs.Parsed.Apart.{is_expression, is_tagged, AreApart, ParametersAreNone}
+use Rattle.cr_scopes_typedef_names.specs.Parsed.Apart.{is_expression, AreApart, ParametersAreNone}
 use Rattle.cr_scopes_typedef_names.specs.Typedefs.Sees.{is_typedef_name, is_of_typedef, IsTypedef}
 use Rattle.cr_scopes_typedef_names.proofs.TypedefsLemmas.Seeing.{all_see}
+use Rattle.cr_scopes_typedef_names.specs.Tellings.Tellings.{is_tagged}
 use Rattle.cr_check_enclosing.specs.Around.{AreAround}
-use Rattle.cr_check_declarations.specs.declared.tree.Tree.{Tree}
 use Rattle.cr_check_surroundings.specs.Surroundings.{IsTree}
 use Rattle.cr_typed.specs.declared.typed.Typed.{Typed}
 use Rattle.cr_meaning_declarations.specs.Units.Owned.{AreOfUnit}
@@ -97,8 +97,7 @@ module _ (file : List ℕ) (t : Typed) (it : IsAssembledFile file t) where
 
   -- ---- no parameter says `typedef` (K2)
 
-  abbrev u : Tree
-  u = it.checked.by.tree
+  open it use {tree as u}
 
   abbrev tree : IsTree file it.unit it.checked.checked.surroundings u
   tree = it.checked.by.is.whole.tree

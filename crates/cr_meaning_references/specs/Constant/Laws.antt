@@ -11,12 +11,11 @@ use Rattle.cr_typed.specs.declared.typed.Duration.TheVariants as duration
 use Rattle.cr_meaning_operations.specs.Operations.{entity_of, is_automatic_by}
 use Rattle.cr_meaning_declarations.specs.Declared.Files.{IsUnitOfFile}
 use Rattle.cr_meaning_typing.specs.Judged.Judged.{seen_in}
-use Rattle.cr_meaning_types.specs.Known.Shaped.{IsShaped}
 use Rattle.cr_meaning_references.specs.Constant.Outside.{IsOutside}
 
 -- a place that a name names, and whose address is constant, is no automatic object (6.2.4p3, 6.6p9), where the name is told once
 abbrev pub AnchoredNamesLast : Type 0
-AnchoredNamesLast = (file : List ℕ) (t : Typed) (it : IsUnitOfFile file t) → IsShaped it.checked.by.tree → (i : ℕ) (n : Node) → slice_get t.nodes i ≡ Some n → n.kind ≡ kind.Identifier
+AnchoredNamesLast = (file : List ℕ) (t : Typed) (it : IsUnitOfFile file t) → (i : ℕ) (n : Node) → slice_get t.nodes i ≡ Some n → n.kind ≡ kind.Identifier
     → (seen_in it.checked.checked i).lvalue ≡ true → is_anchored it.checked.checked.table it.checked.checked.whole.typing i ≡ true → count_of n.first (unit_events it.unit) ≤ 1
     → is_automatic_by (slice_index_or t.durations (entity_of t i) duration.NoObject) ≡ false
 

@@ -11,7 +11,7 @@ use Rattle.cr_syntax.specs.declared.node.Node.{Node}
 use Rattle.cr_syntax_nodes.proofs.Numbers.{some_at}
 use Rattle.cr_check_enclosing.specs.declared.context.Around.{Around}
 use Rattle.cr_check_enclosing.specs.declared.context.Place.TheVariants as place
-use Rattle.cr_check_enclosing.specs.Around.{outermost, inside, AreAround}
+use Rattle.cr_check_enclosing.specs.Around.{outermost, AreAround}
 use Rattle.cr_check_types.specs.declared.layout.Layout.{Layout}
 use Rattle.cr_check_types.specs.declared.shape.Shape.{Shape}
 use Rattle.cr_check_types.specs.Types.{Qualified, plain, pointer, array, type_at}
@@ -50,7 +50,7 @@ use Rattle.cr_meaning_types.specs.Known.Sized.{AreTypedefs}
 use Rattle.cr_meaning_types.specs.Known.Sized as known_sizes
 use Rattle.cr_meaning_types.proofs.KnownLemmas.Naming.{declaration_here, ruled, named_early, declarator_early}
 use Rattle.cr_meaning_types.proofs.KnownLemmas.Declaring.{unplaced, there_is, member_complete}
-use Rattle.cr_meaning_types.proofs.KnownLemmas.Listing.{mapped, behind_first}
+use Rattle.cr_meaning_types.proofs.KnownLemmas.Listing.{mapped, behind_first, member_place}
 use Rattle.cr_meaning_types.proofs.KnownLemmas.Sized.{bracketless}
 use Rattle.cr_meaning_types.specs.Fitting.Laws.{TypesAreBounded, StructuresAreBounded}
 use Rattle.cr_meaning_types.specs.Fitting.Bounded.{IsBounded, Every, Declares, IsDeclaredBounded, IsEntryBounded, IsMemberBounded, IsBoundedIn}
@@ -210,10 +210,6 @@ module _ (nodes : List Node) (layouts : List Layout) (shapes : List Shape) (at :
     parameters_bounded kind.GroupDeclarator ns n = inner_parameters (slice_get n.parts 0)
     parameters_bounded kind.InitDeclarator ns n = inner_parameters (slice_get n.parts 0)
     parameters_bounded k ns n = tt
-
-member_place : (k : Kind) (i : ℕ) (a : Around) → k ≡ kind.MemberDeclaration → (inside k i a).place ≡ place.Member
-unfolding inside
-member_place k i a e = ap (λ c. (inside c i a).place) e
 
 -- the type of an object that a name stands for is that of its row
 object_row : (look : ℕ → Qualified) (rows : List ℕ) (d : Declared) (row : ℕ) (type : Qualified) → Declares (λ own. own ≡ row) d → object_of (meaning_by look rows d) ≡ Some type → look row ≡ type

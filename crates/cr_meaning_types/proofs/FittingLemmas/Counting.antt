@@ -21,8 +21,8 @@ use Rattle.cr_check_declarators.specs.declared.words.Class.{Class}
 use Rattle.cr_check_declarators.specs.declared.declarator.Size.{Size}
 use Rattle.cr_check_declarators.specs.declared.declarator.Size.TheVariants as size
 use Rattle.cr_check_declarators.specs.declared.declarator.Declarator.{Declarator}
-use Rattle.cr_check_declarators.specs.Specifiers.{first_of, volatile_fault_of, is_member}
-use Rattle.cr_check_declarators.specs.Declarators.{most_cells, name_alone, hole, is_hole_type, is_unknown, is_refused, is_object_of, size_of, constant_size, array_of, function_by, function_of, function_fault_of, cells_fault_of, open_fault_of, are_whole, whole_elements, whole_object}
+use Rattle.cr_check_declarators.specs.Specifiers.{first_of, volatile_fault_of}
+use Rattle.cr_check_declarators.specs.Declarators.{most_cells, name_alone, hole, is_hole_type, is_unknown, is_refused, is_object_of, size_of, constant_size, array_of, function_by, function_of, function_fault_of, cells_fault_of, are_whole, whole_elements, whole_object}
 use Rattle.cr_check_declarators.specs.Cells.{Derives, named, starred, sized, unsized, called, has_large}
 use Rattle.cr_check_declarators.specs.Structures.{is_too_large_of}
 use Rattle.cr_check_declarators.proofs.Counted.{counted as cells_counted}
@@ -41,7 +41,7 @@ use Rattle.cr_meaning_typing.specs.Typed.Laws.{HoldsAll}
 use Rattle.cr_meaning_typing.proofs.TypedLemmas.Worth.{unbroken}
 use Rattle.cr_meaning_types.specs.Known.Shaped.{fits, IsShaped}
 use Rattle.cr_meaning_types.proofs.KnownLemmas.Naming.{holds_all, ruled, declarator_early, specifier_holds}
-use Rattle.cr_meaning_types.proofs.KnownLemmas.Declaring.{declarator_holds, unplaced}
+use Rattle.cr_meaning_types.proofs.KnownLemmas.Declaring.{declarator_holds, unplaced, later_faults}
 use Rattle.cr_meaning_types.proofs.FittingLemmas.Types.{cells_early}
 use Rattle.cr_meaning_types.proofs.FittingLemmas.Names.{IsDerived}
 
@@ -137,9 +137,6 @@ whole_anyhow b (pointer c v t) e = e
 whole_anyhow b (array n t) e = (and_parts b (are_whole (not (n == 0)) t) e).1
 
 -- ---- constraints
-
-abbrev later_faults : Has → Place → Option Class → Bool → List (Option Break)
-later_faults own at storage initialised = fault_at 14 (open_fault_of own.declarator at storage initialised) ∷ fault_at 41 (token_if (is_member at) own.declarator.volatile) ∷ []
 
 -- K6 of elements
 elements_whole : (own : Has) (b : Before) (nodes : List Node) (i : ℕ) (at : Place) (storage : Option Class) (initialised : Bool) (of : Qualified) (name : ℕ)

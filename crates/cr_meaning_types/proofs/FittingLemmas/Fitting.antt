@@ -45,7 +45,7 @@ use Rattle.cr_check_unit.specs.Statements.{is_definition, result_in}
 use Rattle.cr_typed.specs.declared.typed.Typed.{Typed}
 use Rattle.cr_typed.specs.Typed.{MOST_CELLS, IsBefore, row_cells}
 use Rattle.cr_typed_columns.specs.declared.checked.CheckedColumns.{CheckedColumns}
-use Rattle.cr_typed_columns.specs.Reading.{Parsed, kind_of, part_of, entry_of}
+use Rattle.cr_typed_columns.specs.Reading.{Parsed, part_of, entry_of}
 use Rattle.cr_typed_columns.specs.Rows.{listed, levels_of_all, levels_upto, put_type}
 use Rattle.cr_typed_columns.specs.Entities.{whole_of, declared_of, first_declared, entity_of}
 use Rattle.cr_typed_columns.specs.Names as names

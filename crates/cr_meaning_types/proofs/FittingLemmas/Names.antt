@@ -1,5 +1,5 @@
 -- What specifiers, declarators and other declarations of a name make of types that are bounded (C11 6.2.7, 6.7).
-use Rattle.std.proofs.Common.{◌≡◌, ℕ, zero, suc, ◌<◌, Bool, true, false, List, [], ◌∷◌, ◌++◌, Option, None, Some, fold, map, take, slice_get, slice_index_or, inl, inr, refl, sym, subst, arith, ℤ, if◌then◌else◌}
+use Rattle.std.proofs.Common.{◌≡◌, ℕ, suc, ◌<◌, Bool, true, false, List, [], ◌∷◌, ◌++◌, Option, None, Some, fold, map, take, slice_get, slice_index_or, inl, inr, refl, sym, subst, arith, ℤ, if◌then◌else◌}
 use Rattle.std.specs.List.{flat_map}
 use Rattle.std.specs.Option.{is_some}
 use Rattle.std.proofs.lemmas.Bool.{and_parts, cases_lt, false≢true}
@@ -59,11 +59,6 @@ every_flat P f (x ∷ xs) h = every_appended P (f x) (flat_map f xs) (h x) (ever
 pub every_listed : {A : Type 0} (P : A → Type 0) (xs : List A) → ((k : ℕ) (x : A) → slice_get xs k ≡ Some x → P x) → Every P xs
 every_listed P [] h = tt
 every_listed P (x ∷ xs) h = (h 0 x refl, every_listed P xs (λ k y e. h (suc k) y e))
-
-pub every_at : {A : Type 0} (P : A → Type 0) (xs : List A) → Every P xs → (k : ℕ) (x : A) → slice_get xs k ≡ Some x → P x
-every_at P [] h k x e = absurd (cc e)
-every_at P (y ∷ ys) h zero x e = let is : y ≡ x = cc e in subst P is h.0
-every_at P (y ∷ ys) h (suc k) x e = every_at P ys h.1 k x e
 
 -- an entry of a column before node i, which is that of no node elsewhere
 pub early : {A : Type 0} (Q : A → Type 0) (i : ℕ) (xs : List A) (p : ℕ) (d : A) → Q d → (p < i → Q (slice_index_or xs p d)) → Q (slice_index_or (take i xs) p d)

@@ -21,11 +21,7 @@ use Rattle.cr_check_initialisers.specs.Plans.{is_open}
 use Rattle.cr_typed.specs.Typed.{MOST_CELLS}
 use Rattle.cr_meaning_types.specs.Fitting.Bounded.{IsBounded}
 
-pub if_true : (b c d : Bool) → b ≡ true → (if b then c else d) ≡ c
-if_true true c d e = refl
-if_true false c d e = absurd (false≢true e)
-
-both : (a b : Bool) → a ≡ true → b ≡ true → (a && b) ≡ true
+pub both : (a b : Bool) → a ≡ true → b ≡ true → (a && b) ≡ true
 both true b e f = f
 both false b e f = absurd (false≢true e)
 

@@ -21,7 +21,7 @@ use Rattle.cr_check_operands.specs.Places.{is_modifiable_seen, stored_value, ste
 use Rattle.cr_check_expressions.specs.declared.form.Form.{Form}
 use Rattle.cr_check_expressions.specs.declared.form.Form.TheVariants as form
 use Rattle.cr_check_expressions.specs.Known.{Meaning, an_object, a_function, Source}
-use Rattle.cr_check_expressions.specs.Ruled.{seen_in, operand, value, complete, named_by, literal, member_in, pointed_structure, counts_agree, are_passed, called, sized, converted_by, chosen, combined, computed, ruled}
+use Rattle.cr_check_expressions.specs.Ruled.{seen_in, operand, value, complete, named_by, literal, member_in, pointed_structure, counts_agree, are_passed, called, combined, computed, ruled}
 use Rattle.cr_check_expressions.specs.Ruled as rules
 use Rattle.cr_typed.specs.Typed.{MOST_CELLS}
 use Rattle.cr_meaning_types.specs.Fitting.Bounded.{IsBounded}

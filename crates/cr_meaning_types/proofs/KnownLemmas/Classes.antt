@@ -25,11 +25,11 @@ abbrev pub Typedefs : Option Storage → Type 0
 Typedefs None = ⊥
 Typedefs (Some s) = (s.typedefs ≡ true) × ((s.class ≡ class.Typedef) ⊎ (is_some s.second ≡ true))
 
-first_some : (o : Option ℕ) (token : ℕ) → is_some (first_of o (Some token)) ≡ true
+pub first_some : (o : Option ℕ) (token : ℕ) → is_some (first_of o (Some token)) ≡ true
 first_some None token = refl
 first_some (Some x) token = refl
 
-or_right : (a b : Bool) → b ≡ true → (a || b) ≡ true
+pub or_right : (a b : Bool) → b ≡ true → (a || b) ≡ true
 or_right true b e = refl
 or_right false b e = e
 

@@ -121,7 +121,7 @@ pub unplaced : (row : ℕ) (o : Option ℕ) (rest : List (Option Break)) → Hol
 unplaced row None rest h = refl
 unplaced row (Some token) rest h = absurd (h (record { token = token; row = row }) (inl refl))
 
-in_place : (own : Declarator) (at : Place) (typedef : Bool) (result : Qualified) → function_fault_of own at typedef result ≡ false → own.misplaced ≡ false
+pub in_place : (own : Declarator) (at : Place) (typedef : Bool) (result : Qualified) → function_fault_of own at typedef result ≡ false → own.misplaced ≡ false
 in_place own at typedef result e = by (is_some own.function) e
   where
     by : (b : Bool) → (if b then own.misplaced || (not (is_declared at typedef own.empty) || not (may_return result)) else own.misplaced) ≡ false → own.misplaced ≡ false
@@ -135,7 +135,7 @@ refused_by false true c e f g = absurd (false≢true (sym f))
 refused_by false false true e f g = absurd (false≢true (sym g))
 
 -- what it breaks behind its own size
-abbrev later_faults : Has → Place → Option Class → Bool → List (Option Break)
+abbrev pub later_faults : Has → Place → Option Class → Bool → List (Option Break)
 later_faults own at storage initialised = fault_at 14 (open_fault_of own.declarator at storage initialised) ∷ fault_at 41 (token_if (is_member at) own.declarator.volatile) ∷ []
 
 -- K7 and K8

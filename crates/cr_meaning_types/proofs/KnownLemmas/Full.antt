@@ -1,5 +1,5 @@
 -- Where no bracket of a declarator is without a size, what it derives has no array of unknown size (C11 6.7.6.2, K7).
-use Rattle.std.proofs.Common.{◌≡◌, ℕ, zero, suc, ◌<◌, ◌==◌, ◌&&◌, pos, negsuc, Bool, true, false, not, List, Option, None, Some, nat_lt, slice_get, refl, sym, ap, ◌∙◌, ◌-◌, ◌^◌, arith, if◌then◌else◌}
+use Rattle.std.proofs.Common.{◌≡◌, ℕ, zero, suc, ◌<◌, ◌==◌, pos, negsuc, Bool, true, false, not, List, Option, None, Some, nat_lt, slice_get, refl, sym, ap, ◌∙◌, ◌-◌, ◌^◌, arith, if◌then◌else◌}
 use Rattle.std.specs.Option.{is_some}
 use Rattle.std.proofs.lemmas.Bool.{false≢true}
 use Rattle.std.proofs.lemmas.List.{get_or-take}
@@ -16,7 +16,6 @@ use Rattle.cr_check_expressions.specs.Ruled.{is_typed}
 use Rattle.cr_check_declarators.specs.declared.declarator.Size.{Size}
 use Rattle.cr_check_declarators.specs.declared.declarator.Size.TheVariants as size
 use Rattle.cr_check_declarators.specs.declared.declarator.Declarator.{Declarator}
-use Rattle.cr_check_declarators.specs.Specifiers.{first_of}
 use Rattle.cr_check_declarators.specs.Declarators.{name_alone, hole, is_hole_type, size_of, constant_size, array_of, function_by}
 use Rattle.cr_check_declarations.specs.declared.tree.Tree.{Tree}
 use Rattle.cr_check_declarations.specs.Before.{Before, declarator_in}
@@ -27,6 +26,8 @@ use Rattle.cr_check_unit.specs.Breaks.{IsBroken}
 use Rattle.cr_meaning_types.specs.Known.Shaped.{IsShaped}
 use Rattle.cr_meaning_types.proofs.KnownLemmas.Naming.{ruled, declarator_early}
 use Rattle.cr_meaning_types.proofs.KnownLemmas.Open.{is_full}
+use Rattle.cr_meaning_types.proofs.FittingLemmas.Types.{both as both_true}
+use Rattle.cr_meaning_types.proofs.KnownLemmas.Classes.{first_some as behind_some}
 
 -- ---- sizes
 
@@ -55,15 +56,6 @@ counted at None = refl
 counted at (Some part) = size_counted (is_typed (at part)) (at part).constant
 
 -- ---- declarators
-
-behind_some : (o : Option ℕ) (token : ℕ) → is_some (first_of o (Some token)) ≡ true
-behind_some None token = refl
-behind_some (Some x) token = refl
-
-both_true : (a b : Bool) → a ≡ true → b ≡ true → (a && b) ≡ true
-both_true true true e f = refl
-both_true false b e f = absurd (false≢true e)
-both_true a false e f = absurd (false≢true f)
 
 array_full : (d : Declarator) (bracket : ℕ) (s : Size) (inner : Qualified) → is_counted s ≡ true → (is_some d.sizeless ≡ false → is_full inner ≡ true) → is_some (array_of d bracket s).sizeless ≡ false
     → is_full (array (count_of s) inner) ≡ true

@@ -56,11 +56,11 @@ all_flat u shapes f (p ∷ ps) h k m e = elim (appended (f p) (flat_map f ps) k 
 
 -- ---- kinds
 
-member_place : (k : Kind) (i : ℕ) (a : Around) → k ≡ kind.MemberDeclaration → (inside k i a).place ≡ place.Member
+pub member_place : (k : Kind) (i : ℕ) (a : Around) → k ≡ kind.MemberDeclaration → (inside k i a).place ≡ place.Member
 unfolding inside
 member_place k i a e = ap (λ c. (inside c i a).place) e
 
-specified_parameter : (k : Kind) → is_parameter_kind k ≡ true → (k ≡ kind.Parameter) ⊎ (is_specifier k ≡ true)
+pub specified_parameter : (k : Kind) → is_parameter_kind k ≡ true → (k ≡ kind.Parameter) ⊎ (is_specifier k ≡ true)
 specified_parameter kind.Parameter e = inl refl
 specified_parameter k e = inr e
 

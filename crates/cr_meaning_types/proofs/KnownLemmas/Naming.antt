@@ -84,9 +84,6 @@ declaration_is nodes above p d e = by (is_initialised (kind_in nodes (slice_inde
 
 module _ (u : Tree) (texts : List (List ℕ)) (shapes : List Shape) (t : Typing) (h : IsTyping u texts shapes t) (holds : (b : Break) → IsBroken u texts shapes t b → ⊥) where
   module _ (i : ℕ) (n : Node) (at : slice_get u.nodes.now i ≡ Some n) where
-    abbrev pub before : Before
-    before = before_in shapes (cut i t)
-
     pub ruled : IsRuled u texts shapes (cut i t) (entry_at t i) i n
     ruled = subst (IsRuledIf u texts shapes (cut i t) (entry_at t i) i) at (h.each i)
 

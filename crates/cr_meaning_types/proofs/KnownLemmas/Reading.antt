@@ -46,7 +46,7 @@ is_name_form form.Name = true
 is_name_form form.Call = true
 is_name_form f = false
 
-row : (a b : Bool) → (not a || b) ≡ true → a ≡ true → b ≡ true
+pub row : (a b : Bool) → (not a || b) ≡ true → a ≡ true → b ≡ true
 row true b h e = h
 row false b h e = absurd (false≢true e)
 

@@ -44,7 +44,7 @@ use Rattle.cr_meaning_types.proofs.KnownLemmas.Naming.{declaration_here, declara
 use Rattle.cr_meaning_types.proofs.KnownLemmas.Specifying.{specifier_plain, named_specified, single_specifier, tag_holds, used_well}
 use Rattle.cr_meaning_types.proofs.KnownLemmas.Sizes.{declarator_names}
 use Rattle.cr_meaning_types.proofs.KnownLemmas.Declaring.{declarator_holds, unplaced, has_specifiers, there_is, node_there, declarator_plain, named_declarator}
-use Rattle.cr_meaning_types.proofs.KnownLemmas.Listing.{mapped, behind_first, appended}
+use Rattle.cr_meaning_types.proofs.KnownLemmas.Listing.{mapped, behind_first, appended, member_place}
 use Rattle.cr_meaning_types.proofs.KnownLemmas.Open.{seen_closed, as_closed, declared_closed, named_closed, given_closed}
 use Rattle.cr_meaning_types.proofs.KnownLemmas.Classes.{Typedefs, among_said, typedef_class, parameter_refuses, member_refuses, open_place, none_initialised, says_typedef}
 use Rattle.cr_meaning_types.proofs.KnownLemmas.Full.{full}
@@ -58,10 +58,6 @@ initialised_kind k e = absurd (false≢true e)
 declaration_plain : (k : Kind) → is_declaration (Some k) ≡ true → is_initialised (Some k) ≡ false
 declaration_plain kind.InitDeclarator e = absurd (false≢true e)
 declaration_plain k e = refl
-
-member_place : (k : Kind) (i : ℕ) (a : Around) → k ≡ kind.MemberDeclaration → (inside k i a).place ≡ place.Member
-unfolding inside
-member_place k i a e = ap (λ c. (inside c i a).place) e
 
 declared_in : (nodes : List Node) (a : Option ℕ) (d : ℕ) → declaration_at nodes a ≡ Some d → a ≡ Some d
 declared_in nodes a d e = by (is_declaration (kind_in nodes a)) e
@@ -107,7 +103,7 @@ storage_held own t at i n h = unplaced 2 (token_if (is_whole t i && is_lone at) 
 
 -- ---- brackets without a size (K14)
 
-bracketed : (own : Has) (b : Before) (nodes : List Node) (i : ℕ) (at : Place) (storage : Option Class) (of : Qualified) (name : ℕ) → may_be_open at storage ≡ false
+pub bracketed : (own : Has) (b : Before) (nodes : List Node) (i : ℕ) (at : Place) (storage : Option Class) (of : Qualified) (name : ℕ) → may_be_open at storage ≡ false
     → HoldsAll (declarator_faults own b nodes i at storage false of name) → is_some own.declarator.sizeless ≡ false
 bracketed own b nodes i at storage of name shut h =
     by (may_be_open at storage) shut

@@ -1,10 +1,11 @@
 -- Tokens that are told as functions of one name declare one entity: what is linked first by the name. Each other one declares what is linked, or
 -- its own.
-use Rattle.std.proofs.Common.{◌≡◌, ℕ, zero, suc, ◌+◌, ◌-◌, ◌<◌, ◌≤◌, ◌==◌, Bool, true, false, not, ◌&&◌, ◌||◌, ◌⊎◌, List, [], ◌∷◌, ◌++◌, Option, None, Some, length, slice_get, inl, inr, refl, sym, subst, ap, ◌∙◌, arith}
+use Rattle.std.proofs.Common.{◌≡◌, ℕ, zero, suc, ◌+◌, ◌-◌, ◌<◌, ◌==◌, Bool, true, false, not, ◌&&◌, ◌||◌, ◌⊎◌, List, [], ◌∷◌, ◌++◌, Option, None, Some, length, slice_get, inl, inr, refl, sym, subst, ap, ◌∙◌, arith}
 use Rattle.std.specs.Prelude.{if◌then◌else◌}
 use Rattle.std.specs.List.{list_any}
 use Rattle.std.specs.Option.{is_some}
 use Rattle.std.proofs.lemmas.Bool.{false≢true, and_parts, and_from, cases_lt, eqb-true, eq-eqb, lt-ltb, or_left, or_right}
+use Rattle.std.proofs.lemmas.Option.{same_Some}
 use Rattle.cr_scopes_events.specs.declared.event.Role.{Role}
 use Rattle.cr_scopes_events.specs.declared.event.Role.TheVariants as role
 use Rattle.cr_scopes_events.specs.declared.event.Event.{Event}
@@ -21,20 +22,13 @@ use Rattle.cr_scopes.specs.Resolved.{space_of, space_number, told_if, told_of, t
 use Rattle.cr_scopes_bindings.specs.Entities.{entity_within, entity_at, is_declared_by, declares, declared_entity}
 use Rattle.cr_scopes_bindings.specs.Visible.{is_named}
 use Rattle.cr_scopes_visibility.proofs.AloneLemmas.Telling.{AreRight, all_right}
+use Rattle.cr_scopes_visibility.proofs.AloneLemmas.First.{one_if as one_more}
 use Rattle.cr_scopes_linkage.specs.Shared.Sorts.{is_value, Never}
 use Rattle.cr_scopes_linkage.specs.Functions.Functions.{is_no_function, is_other, IsFunction, AreValues}
 use Rattle.cr_scopes_linkage.specs.Functions.Laws
-
-some_same : {A : Type 0} (x y : A) → Some x ≡ Some y → x ≡ y
-some_same x y e = cc e
+use Rattle.cr_scopes_linkage.proofs.SharedLemmas.Looked.{links_value as linking_value}
 
 -- ---- roles
-
-linking_value : (outermost : Bool) (r : Role) → links outermost r ≡ true → is_value r ≡ true
-linking_value outermost role.Object h = refl
-linking_value outermost role.ExternObject h = refl
-linking_value outermost role.Function h = refl
-linking_value outermost r h = absurd (false≢true h)
 
 only_function : (r : Role) → is_no_function r ≡ false → r ≡ role.Function
 only_function role.Function h = refl
@@ -305,10 +299,6 @@ module _ (name : ℕ → ℕ) where
 
 -- ---- entities
 
-one_more : (b : Bool) (n : ℕ) → n ≤ (if b then n + 1 else n)
-one_more true n = omega arith
-one_more false n = omega arith
-
 -- fewer begin before a token that begins one than before any later one
 fewer : (at : ℕ → Option Told) (a b : ℕ) → a < b → begins (at a) a ≡ true → count_of at a < count_of at b
 fewer at a zero less h = absurd (omega (arith, less))
@@ -320,7 +310,7 @@ fewer at a (suc b) less h = elim (cases_lt a b) [
       subst (λ n. count_of at a < count_of at (suc n)) same (omega (arith, own)))
 ]
 
-any_there : {A : Type 0} (test : A → Bool) (xs : List A) (k : ℕ) (x : A) → slice_get xs k ≡ Some x → test x ≡ true → list_any test xs ≡ true
+pub any_there : {A : Type 0} (test : A → Bool) (xs : List A) (k : ℕ) (x : A) → slice_get xs k ≡ Some x → test x ≡ true → list_any test xs ≡ true
 any_there test [] k x e h = absurd (cc e)
 any_there test (y ∷ xs) zero x e h = let same : y ≡ x = cc e in or_left (test y) (list_any test xs) (ap test same ∙ h)
 any_there test (y ∷ xs) (suc k) x e h = or_right (test y) (list_any test xs) (any_there test xs k x e h)
@@ -389,7 +379,7 @@ module _ (name : ℕ → ℕ) (events : List Event) (tokens : ℕ) (names : Name
     | inl never ↦ absurd ((linked_told name s y whole e).value never)
     | inr v ↦
         (let own = linked_told name s y whole e in
-        let x = own_first name y whole own.there v.1 right (λ w f. some_same w y (sym f ∙ ap (λ z. linked name z whole) own.same ∙ e)) in
+        let x = own_first name y whole own.there v.1 right (λ w f. same_Some w y (sym f ∙ ap (λ z. linked name z whole) own.same ∙ e)) in
         record {
           low = v.0;
           begins_there = ap (λ o. begins o y) (told_there y x.own v.0 x.is) ∙ and_from x.own.declares (x.own.first == y) x.declares_it (eq-eqb x.own.first y x.first_is);
@@ -425,7 +415,7 @@ module _ (name : ℕ → ℕ) (events : List Event) (tokens : ℕ) (names : Name
   both one other low less f g same =
       let x = function_first name one whole f.named f.each right in
       let y = function_first name other whole g.named g.each right in
-      let first : y.0 ≡ x.0 = some_same y.0 x.0 (sym y.1.0 ∙ ap (λ s. linked name s whole) (sym same) ∙ x.1.0) in
+      let first : y.0 ≡ x.0 = same_Some y.0 x.0 (sym y.1.0 ∙ ap (λ s. linked name s whole) (sym same) ∙ x.1.0) in
       let b = begun_there (name one) x.0 x.1.0 in
       (count_of at x.0, (entity_is one x.0 low b x.1.1, entity_is other x.0 less b (subst (λ z. StandsFor name other z whole) first y.1.1)))
 

@@ -1,5 +1,5 @@
 -- What stands for one first declaration has one number, and what declares it is listed there.
-use Rattle.std.proofs.Common.{◌≡◌, ℕ, zero, suc, ◌+◌, ◌<◌, ◌≤◌, ◌==◌, Bool, true, false, ◌||◌, List, [], ◌∷◌, ◌++◌, Option, None, Some, length, slice_get, inl, inr, refl, sym, subst, ap, ◌∙◌, arith}
+use Rattle.std.proofs.Common.{◌≡◌, ℕ, zero, suc, ◌+◌, ◌<◌, ◌≤◌, ◌==◌, Bool, true, false, ◌||◌, List, [], ◌∷◌, ◌++◌, Option, None, Some, length, inl, inr, refl, sym, subst, ap, ◌∙◌, arith}
 use Rattle.std.specs.Prelude.{if◌then◌else◌}
 use Rattle.std.specs.List.{list_any}
 use Rattle.std.proofs.lemmas.Bool.{false≢true, cases_lt, eq-eqb, lt-ltb, or_left, or_right}
@@ -14,23 +14,14 @@ use Rattle.cr_scopes_visibility.proofs.AloneLemmas.Telling.{AreRight, all_right}
 use Rattle.cr_scopes_bindings.specs.Visible.{visible}
 use Rattle.cr_scopes_linkage.specs.Shared.Sorts.{is_tag, Never}
 use Rattle.cr_scopes_visibility.specs.Uses.Uses.{is_use}
+use Rattle.cr_scopes_visibility.proofs.AloneLemmas.First.{rises}
 use Rattle.cr_scopes.specs.Faults.{is_typedef}
 use Rattle.cr_scopes_linkage.specs.Meant.Laws
 use Rattle.cr_scopes_linkage.specs.Meant.Laws.{times, is_other, AreSorted}
 use Rattle.cr_scopes_linkage.proofs.MeantLemmas.Linked.{stood_for, StandsFor, IsUse, used, linked_told, IsFirst, first_is, first_told}
+use Rattle.cr_scopes_linkage.proofs.FunctionsLemmas.Shared.{any_there as any_at}
 
 -- ---- how many entities begin
-
-one_if : (b : Bool) (n : ℕ) → n ≤ (if b then n + 1 else n)
-one_if true n = omega arith
-one_if false n = omega arith
-
-rises : (at : ℕ → Option Told) (a b : ℕ) → a ≤ b → count_of at a ≤ count_of at b
-rises at a zero le = let e : a ≡ 0 = omega (arith, le) in subst (λ x. count_of at x ≤ count_of at 0) (sym e) (omega arith)
-rises at a (suc b) le = elim (cases_lt b a) [
-  | inl more ↦ (let e : a ≡ suc b = omega (arith, le, more) in subst (λ x. count_of at x ≤ count_of at (suc b)) (sym e) (omega arith))
-  | inr less ↦ (let x = rises at a b less in let y = one_if (begins (at b) b) (count_of at b) in omega (arith, x, y))
-]
 
 -- ---- the tokens of an entity
 
@@ -45,11 +36,6 @@ any_more test (x ∷ xs) t h = by (test x) h (λ g. any_more test xs t g)
 any_last : (test : ℕ → Bool) (xs : List ℕ) (t : ℕ) → test t ≡ true → list_any test (xs ++ t ∷ []) ≡ true
 any_last test [] t h = or_left (test t) false h
 any_last test (x ∷ xs) t h = or_right (test x) (list_any test (xs ++ t ∷ [])) (any_last test xs t h)
-
-any_at : {A : Type 0} (test : A → Bool) (xs : List A) (k : ℕ) (x : A) → slice_get xs k ≡ Some x → test x ≡ true → list_any test xs ≡ true
-any_at test [] k x e h = absurd cc
-any_at test (y ∷ ys) zero x e h = let same : y ≡ x = cc in or_left (test y) (list_any test ys) (ap test same ∙ h)
-any_at test (y ∷ ys) (suc k) x e h = or_right (test y) (list_any test ys) (any_at test ys k x e h)
 
 module _ (at : ℕ → Option Told) (x k : ℕ) (own : Told) (is : at x ≡ Some own) (declares_it : own.declares ≡ true) (number : number_of at (at x) ≡ Some k) where
   abbrev has : Entity → Bool

@@ -19,7 +19,9 @@ use Rattle.cr_scopes_visibility.specs.Alone.Sight.{is_used}
 use Rattle.cr_scopes_visibility.proofs.AloneLemmas.Telling.{AreRight}
 use Rattle.cr_scopes_linkage.specs.Shared.Sorts.{is_value, is_tag, Never}
 use Rattle.cr_scopes_visibility.specs.Uses.Uses.{is_use}
+use Rattle.cr_scopes_visibility.proofs.OnceLemmas.Meaning.{only_used}
 use Rattle.cr_scopes_linkage.specs.Meant.Laws.{times, is_other}
+use Rattle.cr_scopes_linkage.proofs.SharedLemmas.Looked.{links_value}
 
 -- ---- roles
 
@@ -27,16 +29,6 @@ always_links : (outermost : Bool) (r : Role) → is_other r ≡ false → links 
 always_links outermost role.Function h = refl
 always_links outermost role.ExternObject h = refl
 always_links outermost r h = absurd (false≢true (sym h))
-
-only_used : (r : Role) → is_used r ≡ true → r ≡ role.Used
-only_used role.Used h = refl
-only_used r h = absurd (false≢true h)
-
-links_value : (outermost : Bool) (r : Role) → links outermost r ≡ true → is_value r ≡ true
-links_value outermost role.Object h = refl
-links_value outermost role.ExternObject h = refl
-links_value outermost role.Function h = refl
-links_value outermost r h = absurd (false≢true h)
 
 -- an ordinary identifier is declared
 abbrev is_declared : Role → Bool

@@ -38,7 +38,7 @@ never_once test token (Node i ∷ past) h g = never_once test token past h g
 
 -- ---- roles
 
-links_value : (outermost : Bool) (r : Role) → links outermost r ≡ true → is_value r ≡ true
+pub links_value : (outermost : Bool) (r : Role) → links outermost r ≡ true → is_value r ≡ true
 links_value outermost role.Object h = refl
 links_value outermost role.ExternObject h = refl
 links_value outermost role.Function h = refl
@@ -66,7 +66,7 @@ tag_stands role.Alone h = refl
 tag_stands role.Mentioned h = refl
 tag_stands r h = absurd (false≢true h)
 
-tag_no_value : (r : Role) → is_tag r ≡ true → is_value r ≡ false
+pub tag_no_value : (r : Role) → is_tag r ≡ true → is_value r ≡ false
 tag_no_value role.Content h = refl
 tag_no_value role.Alone h = refl
 tag_no_value role.Mentioned h = refl

@@ -3,6 +3,7 @@ use Rattle.std.proofs.Common.{◌≡◌, ℕ, zero, suc, ◌<◌, ◌==◌, Bool
 use Rattle.std.specs.Prelude.{if◌then◌else◌}
 use Rattle.std.specs.List.{list_any}
 use Rattle.std.proofs.lemmas.Bool.{false≢true, eqb-true}
+use Rattle.std.proofs.lemmas.Option.{same_Some}
 use Rattle.cr_scopes_events.specs.declared.event.Event.{Event}
 use Rattle.cr_scopes.specs.declared.names.Entity.{Entity}
 use Rattle.cr_scopes.specs.declared.names.Names.{Names}
@@ -12,19 +13,20 @@ use Rattle.cr_scopes.specs.Resolved.{told, begins, count_of, number_of, with_tok
 use Rattle.cr_scopes_bindings.specs.Entities.{entity_at, is_declared_by, declares, declared_entity}
 use Rattle.cr_scopes_visibility.proofs.AloneLemmas.Telling.{AreRight, all_right, token_told, none_other}
 use Rattle.cr_scopes_visibility.proofs.AloneLemmas.First.{one_number, number_is, told_there, within_is}
+use Rattle.cr_scopes_visibility.proofs.AloneLemmas.Sight.{declared_by}
 use Rattle.cr_scopes_linkage.specs.Shared.Laws
 use Rattle.cr_scopes_linkage.specs.Shared.Sorts.{is_value, is_tag, Never, IsOfOneSort}
 use Rattle.cr_scopes_linkage.proofs.SharedLemmas.Looked.{Once, never_once, Ways, values, types, tags, itself, ways}
 
 -- ---- the tokens of an entity declare
 
-record IsFoundIn {A : Type 0} (test : A → Bool) (items : List A) : Type 0 where
-  place : ℕ
-  item : A
-  at : slice_get items place ≡ Some item
-  passes : test item ≡ true
+pub record IsFoundIn {A : Type 0} (test : A → Bool) (items : List A) : Type 0 where
+  pub place : ℕ
+  pub item : A
+  pub at : slice_get items place ≡ Some item
+  pub passes : test item ≡ true
 
-found : {A : Type 0} (test : A → Bool) (items : List A) → list_any test items ≡ true → IsFoundIn test items
+pub found : {A : Type 0} (test : A → Bool) (items : List A) → list_any test items ≡ true → IsFoundIn test items
 found test [] e = absurd (false≢true e)
 found test (x ∷ items) e = by (test x) refl e (λ f. found test items f)
   where
@@ -43,9 +45,6 @@ behind test (t ∷ ts) m e = by (test t) e (λ f. behind test ts m f)
     by : (b : Bool) → (b || list_any test (ts ++ m ∷ [])) ≡ true → (list_any test (ts ++ m ∷ []) ≡ true → (list_any test ts ≡ true) ⊎ (test m ≡ true)) → ((b || list_any test ts) ≡ true) ⊎ (test m ≡ true)
     by true e rest = inl refl
     by false e rest = rest e
-
-abbrev declared_by : Entity → List ℕ
-declared_by e = e.declared
 
 -- what is told of it declares
 record IsDeclared (at : ℕ → Option Told) (t : ℕ) : Type 0 where
@@ -73,9 +72,6 @@ in_declared at (suc m) k t e = by (is_number (number_of at (at m)) k) (at m) ref
     by true None p e rest = rest e
     by true (Some x) p e rest = with_it x p x.declares refl e rest
 
-some_same : {A : Type 0} (x y : A) → Some x ≡ Some y → x ≡ y
-some_same x y e = cc
-
 -- ---- of a unit without faults
 
 module _ (name : ℕ → ℕ) (events : List Event) (tokens : ℕ) (names : Names) (resolved : AreResolved name events tokens names) where
@@ -101,7 +97,7 @@ module _ (name : ℕ → ℕ) (events : List Event) (tokens : ℕ) (names : Name
       let x = found (is_declared_by t) names.entities e in
       let few : x.place < length names.entities = within names.entities x.place x.item x.at in
       let c = resolved.names.count in
-      let entity : x.item ≡ entity_of at tokens x.place = some_same x.item (entity_of at tokens x.place) (sym x.at ∙ resolved.names.entities x.place (omega (arith, few, c))) in
+      let entity : x.item ≡ entity_of at tokens x.place = same_Some x.item (entity_of at tokens x.place) (sym x.at ∙ resolved.names.entities x.place (omega (arith, few, c))) in
       in_declared at tokens x.place t (subst (λ (e : Entity). list_any (λ d. d == t) e.declared ≡ true) entity x.passes)
     where
       within : (xs : List Entity) (k : ℕ) (x : Entity) → slice_get xs k ≡ Some x → k < length xs
@@ -118,7 +114,7 @@ module _ (name : ℕ → ℕ) (events : List Event) (tokens : ℕ) (names : Name
           let there = within_is (length names.entities) (slice_index_or names.of_token t None) k e in
           let is = number_is at (at t) k (sym (resolved.names.of_token t low) ∙ there.0) in
           let x = declares_told t q in
-          let one : is.0 ≡ x.own = some_same is.0 x.own (sym is.1.0 ∙ x.is) in
+          let one : is.0 ≡ x.own = same_Some is.0 x.own (sym is.1.0 ∙ x.is) in
           record {
             own = is.0;
             is = told_there name events tokens t is.0 is.1.0;

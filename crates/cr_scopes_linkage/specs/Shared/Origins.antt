@@ -1,33 +1,15 @@
 -- Which nodes tell a name, and as what.
-use Rattle.std.specs.Prelude.{◌≡◌, ℕ, suc, ◌+◌, ◌⊎◌, Bool, true, false, List, [], ◌∷◌, Some, slice_get}
-use Rattle.cr_syntax.specs.declared.node.Kind.{Kind}
+use Rattle.std.specs.Prelude.{◌≡◌, ℕ, suc, ◌+◌, true, false, List, [], ◌∷◌, Some, slice_get}
 use Rattle.cr_syntax.specs.declared.node.Kind.TheVariants as kind
 use Rattle.cr_syntax.specs.declared.node.Node.{Node as SyntaxNode}
 use Rattle.cr_scopes_events.specs.declared.event.Role.{Role}
 use Rattle.cr_scopes_events.specs.declared.event.Event.{Event}
 use Rattle.cr_scopes_events.specs.declared.event.Event.TheVariants.{Node, Opens, Closes, Name, Member}
 use Rattle.cr_scopes_events.specs.Declarators.{declarator_of}
-use Rattle.cr_scopes_events.specs.Scripts.{kind_at, parts_at, storage_of, role_by}
+use Rattle.cr_scopes_events.specs.Scripts.{storage_of, role_by}
 use Rattle.cr_scopes.specs.Faults.{is_typedef}
+pub use Rattle.cr_scopes_typedef_names.specs.Tellings.Tellings.{is_external, is_tagged, IsDeclaring}
 use Rattle.cr_scopes_linkage.specs.Shared.Sorts.{is_value, is_tag}
-
--- declares names of objects, functions and types
-abbrev pub is_external : Kind → Bool
-is_external kind.Declaration = true
-is_external kind.FunctionDefinition = true
-is_external other = false
-
--- has a tag behind its first word
-abbrev pub is_tagged : Kind → Bool
-is_tagged kind.StructTag = true
-is_tagged kind.EnumTag = true
-is_tagged kind.StructContent = true
-is_tagged kind.EnumContent = true
-is_tagged other = false
-
--- a part that declares, or its first part where it is initialised
-abbrev pub IsDeclaring : List SyntaxNode → ℕ → ℕ → Type 0
-IsDeclaring nodes p q = (p ≡ q) ⊎ ((kind_at nodes p ≡ Some kind.InitDeclarator) × (slice_get (parts_at nodes p) 0 ≡ Some q))
 
 -- a node that declares the name, among its declarators; of a definition it is the one
 pub record IsDeclarer (nodes : List SyntaxNode) (token i q : ℕ) (m : SyntaxNode) : Type 0 where

@@ -5,6 +5,7 @@ use Rattle.cr_scopes_events.specs.declared.event.Role.TheVariants as role
 use Rattle.cr_scopes_events.specs.declared.event.Event.{Event}
 use Rattle.cr_scopes_events.specs.declared.event.Event.TheVariants.{Node, Opens, Closes, Name, Member}
 use Rattle.cr_scopes.specs.Faults.{is_typedef}
+pub use Rattle.cr_scopes_typedef_names.specs.Tellings.Tellings.{is_tag}
 
 -- an object or a function
 abbrev pub is_value : Role → Bool
@@ -12,13 +13,6 @@ is_value role.Object = true
 is_value role.ExternObject = true
 is_value role.Function = true
 is_value r = false
-
--- a tag (6.7.2.3)
-abbrev pub is_tag : Role → Bool
-is_tag role.Content = true
-is_tag role.Alone = true
-is_tag role.Mentioned = true
-is_tag r = false
 
 -- no event tells the token so
 abbrev pub Never : (Role → Bool) → ℕ → List Event → Type 0

@@ -55,10 +55,6 @@ abbrev pub onto : List Event → List Event → List Event
 onto past [] = past
 onto past (e ∷ es) = onto (e ∷ past) es
 
-pub onto_append : (past xs ys : List Event) → onto past (xs ++ ys) ≡ onto (onto past xs) ys
-onto_append past [] ys = refl
-onto_append past (x ∷ xs) ys = onto_append (x ∷ past) xs ys
-
 still_named : (token : ℕ) (past : List Event) (e : Event) → is_named token past ≡ true → is_named token (e ∷ past) ≡ true
 still_named token past (Name t r) h = or_right (token == t) (is_named token past) h
 still_named token past Opens h = h
@@ -259,9 +255,6 @@ module _ (spelling : ℕ → List ℕ) (typed : ℕ → Bool) where
 
     pub does_more : {c e f : Scopes} (xs ys : List Step) → Does c e xs → Does e f ys → Does c f (xs ++ ys)
     does_more {c = c} {f = f} xs ys h g = subst (λ es. Follows c f es) (sym (flat_map-append (events_by at) xs ys)) (in_turn h g)
-
-    pub does_one : {c e f : Scopes} (s : Step) (steps : List Step) → Follows c e (events_by at s) → Does e f steps → Does c f (s ∷ steps)
-    does_one s steps h g = in_turn h g
 
     pub does_scope : {c e : Scopes} {names : List TypeName} (steps : List Step) → Does ([] ∷ c) (names ∷ e) steps → Does c e (in_scope steps)
     does_scope {c = c} {e = e} steps h = subst (λ es. Follows c e (Opens ∷ es)) (sym (flat_map-append (events_by at) steps (Happens Closes ∷ []))) (scoped h)

@@ -34,12 +34,13 @@ use Rattle.cr_scopes_events.specs.Events.{events_by}
 use Rattle.cr_scopes.specs.declared.scope.Space.TheVariants.{Ordinary}
 use Rattle.cr_scopes.specs.Looking.{stands_in}
 use Rattle.cr_scopes_typedef_names.specs.Effects.Effects as effects
-use Rattle.cr_scopes_typedef_names.specs.Parsed.Apart.{is_expression, is_tagged, AreApart}
+use Rattle.cr_scopes_typedef_names.specs.Parsed.Apart.{is_expression, AreApart}
 use Rattle.cr_scopes_bindings.specs.Visible.{is_named}
 use Rattle.cr_scopes_typedef_names.proofs.ParsedLemmas.Following.{Follows, named_left, named_right, inside_is, again_block, nothing, in_turn, belongs, mentions, uses, enters, does_more, does_scope}
 use Rattle.cr_scopes_typedef_names.proofs.ParsedLemmas.Rows.{IsNode, some_at}
 use Rattle.cr_scopes_typedef_names.proofs.ParsedLemmas.Sides.{Manner, declaring, parametric, member_wise, is_word, Agrees, IsLoop}
 use Rattle.cr_scopes_typedef_names.proofs.ParsedLemmas.Declaring.{at, below, Makes, below_is, goes_below, below_all, all_below, of_node, kind_is, parts_are, IsDeclared}
+use Rattle.cr_scopes_typedef_names.specs.Tellings.Tellings.{is_tagged}
 
 -- ---- what names are declared as
 

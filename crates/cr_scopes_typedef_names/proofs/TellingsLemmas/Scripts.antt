@@ -101,6 +101,12 @@ module _ (tokens : List Token) (nodes : List Node) where
   first_of (x ∷ ps) zero q f = f
   first_of (x ∷ ps) (suc k) q f = absurd cc
 
+  second_of : (ps : List ℕ) (k x : ℕ) → slice_get (take 2 ps) (suc k) ≡ Some x → k ≡ 0
+  second_of [] k x e = absurd cc
+  second_of (p ∷ []) k x e = absurd cc
+  second_of (p ∷ q ∷ ps) zero x e = refl
+  second_of (p ∷ q ∷ ps) (suc k) x e = absurd cc
+
   part_told : (way : Naming) (p : ℕ) → ((q : ℕ) → IsDeclaring nodes p q → AreTold way q) → (o : Option Kind) → kind_at nodes p ≡ o → AllSteps (declares way nodes p o)
   part_told way p h (Some kind.InitDeclarator) e =
       more (flat_map (declarator_in way nodes) (take 1 (parts_at nodes p))) (inside (drop 1 (parts_at nodes p)))
@@ -114,9 +120,9 @@ module _ (tokens : List Token) (nodes : List Node) where
 
   -- ---- declarations and tags
 
-  external : (i : ℕ) (m : Node) → slice_get nodes i ≡ Some m → is_external m.kind ≡ true → (k p q : ℕ) → slice_get m.parts (suc k) ≡ Some p → IsDeclaring nodes p q → AreTold (Declared (storage_of nodes m.parts)) q
-  external i m at is k p q e f name named =
-      by_declaration (record { node = i; own = m; at = at; is = is; place = k; part = p; has = e; declarator = q; declares = f; names = named }) refl
+  external : (i : ℕ) (m : Node) → slice_get nodes i ≡ Some m → is_external m.kind ≡ true → (k p q : ℕ) → (m.kind ≡ kind.FunctionDefinition → k ≡ 0) → slice_get m.parts (suc k) ≡ Some p → IsDeclaring nodes p q → AreTold (Declared (storage_of nodes m.parts)) q
+  external i m at is k p q first e f name named =
+      by_declaration (record { node = i; own = m; at = at; is = is; place = k; first = first; part = p; has = e; declarator = q; declares = f; names = named }) refl
 
   tag_of : (i : ℕ) (m : Node) → slice_get nodes i ≡ Some m → is_tagged m.kind ≡ true → (b : Bool) → AllSteps (tag_event role.Content (m.first + 1) b)
   tag_of i m at is false = tt
@@ -137,12 +143,12 @@ module _ (tokens : List Token) (nodes : List Node) where
   by_declaration_parts i m at is (p ∷ []) e = lone_told p (slice_get nodes p) refl (kind_at nodes p) refl
   by_declaration_parts i m at is (p ∷ q ∷ ps) e =
       all_declared (Declared (storage_of nodes (p ∷ q ∷ ps))) (p ∷ q ∷ ps)
-      (λ k x y f g. subst (λ l. AreTold (Declared (storage_of nodes l)) y) e (external i m at (ap is_external is) k x y (ap (λ l. slice_get l (suc k)) e ∙ f) g))
+      (λ k x y f g. subst (λ l. AreTold (Declared (storage_of nodes l)) y) e (external i m at (ap is_external is) k x y (λ z. let never : kind.Declaration ≡ kind.FunctionDefinition = sym is ∙ z in cc) (ap (λ l. slice_get l (suc k)) e ∙ f) g))
 
   by_kind : (i : ℕ) (m : Node) → slice_get nodes i ≡ Some m → (k : Kind) → m.kind ≡ k → AllSteps (script_by k tokens nodes i m)
   by_kind i m at kind.FunctionDefinition e =
       more (declaration_in (Declared (storage_of nodes m.parts)) nodes (take 2 m.parts)) _
-      (all_declared (Declared (storage_of nodes m.parts)) (take 2 m.parts) (λ k x y f g. external i m at (ap is_external e) k x y (taken 2 m.parts (suc k) x f) g))
+      (all_declared (Declared (storage_of nodes m.parts)) (take 2 m.parts) (λ k x y f g. external i m at (ap is_external e) k x y (λ z. second_of m.parts k x f) (taken 2 m.parts (suc k) x f) g))
       (scope (flat_map (own_parameters nodes) (take 1 (drop 1 m.parts)) ++ flat_map (items_of nodes) (drop 2 m.parts))
       (more (flat_map (own_parameters nodes) (take 1 (drop 1 m.parts))) (flat_map (items_of nodes) (drop 2 m.parts))
       (each (own_parameters nodes) (take 1 (drop 1 m.parts)) (λ k p f. through (list_of nodes (declarator_of nodes p).next)))
@@ -150,7 +156,7 @@ module _ (tokens : List Token) (nodes : List Node) where
   by_kind i m at kind.Declaration e = by_declaration_parts i m at e m.parts refl
   by_kind i m at kind.Parameter e =
       all_declared Parameters m.parts
-      (λ k p q f g name named. by_parameter (record { node = i; own = m; at = at; is = ap is_parameter e; place = k; part = p; has = f; declarator = q; declares = g; names = named }) refl)
+      (λ k p q f g name named. by_parameter (record { node = i; own = m; at = at; is = ap is_parameter e; place = k; first = λ z. (let never : kind.Parameter ≡ kind.FunctionDefinition = sym e ∙ z in cc); part = p; has = f; declarator = q; declares = g; names = named }) refl)
   by_kind i m at kind.FunctionDeclarator e = more (inside (take 1 m.parts)) (block (drop 1 m.parts) [] []) (through (take 1 m.parts)) (blocks (drop 1 m.parts) [] [])
   by_kind i m at kind.StructContent e =
       more (content_tag tokens m.first) (flat_map (members_of nodes i) m.parts) (tag_of i m at (ap is_tagged e) (is_identifier (slice_get tokens (m.first + 1))))

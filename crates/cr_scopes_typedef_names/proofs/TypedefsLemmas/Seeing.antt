@@ -85,11 +85,6 @@ told_so P es h (suc k) t r x = by (slice_get es k) refl (λ y. told_so P es h k 
     by None q rest x = rest x
     by (Some e) q rest x = here e (past_of es k) q rest x
 
--- a role is a typedef's
-role_is : (r : Role) → is_typedef r ≡ true → r ≡ role.Typedef
-role_is role.Typedef e = refl
-role_is r e = absurd (false≢true e)
-
 word_is : (s : Storage) (d : Derivation) → is_typedef (role_by s d) ≡ true → s ≡ TypedefWord
 word_is TypedefWord d e = refl
 word_is ExternWord (Function f) e = absurd (false≢true e)

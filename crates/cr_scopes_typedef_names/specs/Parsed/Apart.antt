@@ -6,20 +6,13 @@ use Rattle.cr_syntax.specs.declared.node.Node.{Node}
 use Rattle.cr_scopes_events.specs.declared.naming.Storage.TheVariants.{TypedefWord}
 use Rattle.cr_scopes_events.specs.Declarators.{declarator_of}
 use Rattle.cr_scopes_events.specs.Scripts.{storage_of}
+use Rattle.cr_scopes_typedef_names.specs.Tellings.Tellings.{is_tagged}
 
 -- an identifier in an expression
 abbrev pub is_expression : Kind → Bool
 is_expression kind.Identifier = true
 is_expression kind.Call = true
 is_expression k = false
-
--- a tag is the second token of these
-abbrev pub is_tagged : Kind → Bool
-is_tagged kind.StructTag = true
-is_tagged kind.EnumTag = true
-is_tagged kind.StructContent = true
-is_tagged kind.EnumContent = true
-is_tagged k = false
 
 -- some tokens of typedef names, which nothing declares and no other node uses
 pub record AreApart (nodes : List Node) (typed : ℕ → Bool) : Type 0 where

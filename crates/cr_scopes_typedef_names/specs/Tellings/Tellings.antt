@@ -48,6 +48,7 @@ pub record IsDeclarer (nodes : List Node) (token : ℕ) (test : Kind → Bool) :
   pub at : slice_get nodes node ≡ Some own
   pub is : test own.kind ≡ true
   pub place : ℕ
+  pub first : own.kind ≡ kind.FunctionDefinition → place ≡ 0
   pub part : ℕ
   pub has : slice_get own.parts (suc place) ≡ Some part
   pub declarator : ℕ

@@ -2,6 +2,7 @@
 use Rattle.std.proofs.Common.{◌≡◌, ℕ, zero, suc, ◌+◌, ◌<◌, ◌≤◌, Bool, true, false, List, [], ◌∷◌, ◌++◌, Option, None, Some, length, nat_lt, slice_get, slice_index_or, inl, inr, refl, sym, subst, ap, ◌∙◌, arith}
 use Rattle.std.specs.Prelude.{if◌then◌else◌}
 use Rattle.std.proofs.lemmas.Bool.{false≢true, eqb-true, eq-eqb, cases_lt, ltb-true}
+use Rattle.std.proofs.lemmas.Option.{same_Some}
 use Rattle.cr_scopes_events.specs.declared.event.Event.{Event}
 use Rattle.cr_scopes.specs.declared.names.Entity.{Entity}
 use Rattle.cr_scopes.specs.declared.told.Told.{Told}
@@ -12,11 +13,11 @@ use Rattle.cr_scopes_visibility.proofs.AloneLemmas.Telling.{AreRight, all_right,
 
 -- ---- how many entities begin
 
-one_if : (b : Bool) (n : ℕ) → n ≤ (if b then n + 1 else n)
+pub one_if : (b : Bool) (n : ℕ) → n ≤ (if b then n + 1 else n)
 one_if true n = omega arith
 one_if false n = omega arith
 
-rises : (at : ℕ → Option Told) (a b : ℕ) → a ≤ b → count_of at a ≤ count_of at b
+pub rises : (at : ℕ → Option Told) (a b : ℕ) → a ≤ b → count_of at a ≤ count_of at b
 rises at a zero le = let e : a ≡ 0 = omega (arith, le) in subst (λ x. count_of at x ≤ count_of at 0) (sym e) (omega arith)
 rises at a (suc b) le = elim (cases_lt b a) [
   | inl more ↦ (let e : a ≡ suc b = omega (arith, le, more) in subst (λ x. count_of at x ≤ count_of at (suc b)) (sym e) (omega arith))
@@ -45,9 +46,6 @@ number_is at (Some x) k e = by (begins (at x.first) x.first) refl e
         → (y : Told) × ((Some x ≡ Some y) × ((begins (at y.first) y.first ≡ true) × (count_of at y.first ≡ k)))
     by true q e = let same : count_of at x.first ≡ k = cc in (x, (refl, (q, same)))
     by false q e = absurd cc
-
-pub some_same : {A : Type 0} (x y : A) → Some x ≡ Some y → x ≡ y
-some_same x y e = cc
 
 pub number_same : (o : Option ℕ) (k : ℕ) → is_number o k ≡ true → o ≡ Some k
 number_same None k e = absurd (false≢true e)
@@ -101,9 +99,6 @@ module _ (at : ℕ → Option Told) (tok k : ℕ) (own : Told) (own_at : at tok 
 
 -- ---- the law
 
-abbrev at_of : (ℕ → ℕ) → List Event → ℕ → ℕ → Option Told
-at_of name events tokens t = told_below name events tokens t
-
 pub told_there : (name : ℕ → ℕ) (events : List Event) (tokens t : ℕ) (x : Told) → told_below name events tokens t ≡ Some x → told name t (past_of events (length events)) ≡ Some x
 told_there name events tokens t x e = by (nat_lt t tokens) e
   where
@@ -143,9 +138,9 @@ first_is name events tokens names token found resolved low alone h = by (entity_
         let entity : slice_get names.entities k ≡ Some (entity_of at tokens k) = resolved.names.entities k (let c = resolved.names.count in omega (arith, few, c)) in
         let others : (t : ℕ) (x : Told) → at t ≡ Some x → x.declares ≡ true → is_number (number_of at (at t)) k ≡ true → t ≡ token = λ t x here d same.
         let it = number_is at (at t) k (number_same (number_of at (at t)) k same) in
-        let one : it.0 ≡ x = some_same it.0 x (sym it.1.0 ∙ here) in
+        let one : it.0 ≡ x = same_Some it.0 x (sym it.1.0 ∙ here) in
         let first : it.0.first ≡ token = one_number at it.0.first token it.1.1.0 begins_own (it.1.1.1 ∙ sym count_own) in
         none_other name token t past alone right x (told_there name events tokens t x here) d (ap (λ (y : Told). y.first) (sym one) ∙ first) in
         let only = alone_from at token k own is.1.0 told_own.0 (ap (λ o. is_number o k) number ∙ eq-eqb k k refl) others tokens low in
         let chosen : Some token ≡ Some found = sym (ap first_if entity ∙ ap first_in only) ∙ h in
-        sym (some_same token found chosen)
+        sym (same_Some token found chosen)

@@ -3,6 +3,7 @@ use Rattle.std.proofs.Common.{◌≡◌, ℕ, zero, suc, ◌<◌, ◌==◌, ◌�
 use Rattle.std.specs.Prelude.{if◌then◌else◌}
 use Rattle.std.specs.Option.{is_some}
 use Rattle.std.proofs.lemmas.Bool.{false≢true, and_parts, or_left, or_right, eqb-true, eq-eqb, ltb-true}
+use Rattle.std.proofs.lemmas.Option.{same_Some}
 use Rattle.cr_scopes_events.specs.declared.event.Role.{Role}
 use Rattle.cr_scopes_events.specs.declared.event.Role.TheVariants as role
 use Rattle.cr_scopes_events.specs.declared.event.Event.{Event}
@@ -23,7 +24,7 @@ use Rattle.cr_scopes_visibility.specs.Alone.Alone.{is_plain, IsAlone}
 use Rattle.cr_scopes_visibility.specs.Alone.Sight.{is_bound, is_used, IsSeen}
 use Rattle.cr_scopes_visibility.specs.Alone.Laws
 use Rattle.cr_scopes_visibility.proofs.AloneLemmas.Telling.{AreRight, all_right, not_tag, alone_plain, begun_first, token_told, none_other}
-use Rattle.cr_scopes_visibility.proofs.AloneLemmas.First.{one_number, number_is, some_same, number_same, told_there, within_is}
+use Rattle.cr_scopes_visibility.proofs.AloneLemmas.First.{one_number, number_is, number_same, told_there, within_is}
 
 -- ---- scopes that ended
 
@@ -157,20 +158,20 @@ module _ (name : ℕ → ℕ) (tok : ℕ) where
 -- ---- the token that an entity begins with
 
 -- it stands for the entity
-record IsDeclarer (at : ℕ → Option Told) (k t : ℕ) : Type 0 where
-  own : Told
-  is : at t ≡ Some own
-  declares : own.declares ≡ true
-  number : is_number (number_of at (at t)) k ≡ true
+pub record IsDeclarer (at : ℕ → Option Told) (k t : ℕ) : Type 0 where
+  pub own : Told
+  pub is : at t ≡ Some own
+  pub declares : own.declares ≡ true
+  pub number : is_number (number_of at (at t)) k ≡ true
 
-behind : (ts : List ℕ) (m t : ℕ) → first_in (ts ++ m ∷ []) ≡ Some t → (first_in ts ≡ Some t) ⊎ (m ≡ t)
-behind [] m t e = inr (some_same m t e)
+pub behind : (ts : List ℕ) (m t : ℕ) → first_in (ts ++ m ∷ []) ≡ Some t → (first_in ts ≡ Some t) ⊎ (m ≡ t)
+behind [] m t e = inr (same_Some m t e)
 behind (u ∷ ts) m t e = inl e
 
-abbrev declared_by : Entity → List ℕ
+abbrev pub declared_by : Entity → List ℕ
 declared_by e = e.declared
 
-first_declares : (at : ℕ → Option Told) (m k t : ℕ) → first_in (entity_of at m k).declared ≡ Some t → IsDeclarer at k t
+pub first_declares : (at : ℕ → Option Told) (m k t : ℕ) → first_in (entity_of at m k).declared ≡ Some t → IsDeclarer at k t
 first_declares at zero k t e = let never : None ≡ Some t = e in absurd cc
 first_declares at (suc m) k t e = by (is_number (number_of at (at m)) k) refl (at m) refl e (λ f. first_declares at m k t f)
   where
@@ -212,7 +213,7 @@ seen_is name events tokens names token site resolved low other alone h = by (ent
         let entity : slice_get names.entities k ≡ Some (entity_of at tokens k) = resolved.names.entities k (let c = resolved.names.count in omega (arith, few, c)) in
         let own = first_declares at tokens k token (ap first_if (sym entity) ∙ h) in
         let number = number_is at (at token) k (number_same (number_of at (at token)) k own.number) in
-        let one : number.0 ≡ own.own = some_same number.0 own.own (sym number.1.0 ∙ own.is) in
+        let one : number.0 ≡ own.own = same_Some number.0 own.own (sym number.1.0 ∙ own.is) in
         let told_own = token_told name token (past_of events (length events)) alone right own.own (told_there name events tokens token own.own own.is) in
         let first : number.0.first ≡ token = ap (λ (y : Told). y.first) one ∙ told_own.1 in
         let begins_own : begins (at token) token ≡ true = subst (λ f. begins (at f) f ≡ true) first number.1.1.0 in

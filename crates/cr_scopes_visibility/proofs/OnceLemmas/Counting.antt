@@ -3,6 +3,7 @@ use Rattle.std.proofs.Common.{◌≡◌, ℕ, zero, suc, ◌+◌, ◌-◌, ◌<�
 use Rattle.std.specs.Prelude.{if◌then◌else◌}
 use Rattle.std.specs.List.{flat_map}
 use Rattle.std.proofs.lemmas.Bool.{ltb-true, eqb-true, ne_eqb}
+use Rattle.std.proofs.lemmas.Option.{same_Some}
 use Rattle.cr_tokens.specs.declared.token.Token.{Token}
 use Rattle.cr_syntax.specs.declared.node.Kind.{Kind}
 use Rattle.cr_syntax.specs.declared.node.Kind.TheVariants as kind
@@ -18,15 +19,12 @@ use Rattle.cr_scopes_events.specs.declared.naming.Naming.TheVariants.{Parameters
 use Rattle.cr_scopes_events.specs.declared.declarator.Derivation.{Derivation}
 use Rattle.cr_scopes_events.specs.Values.{before}
 use Rattle.cr_scopes_events.specs.Declarators.{declarator_of}
-use Rattle.cr_scopes_events.specs.Scripts.{kind_if, kind_at, first_if, parts_if, parts_at, inside, in_scope, in_scopes, block, storage_of, event_by, role_by, declarator_in, declares, declaration_in, is_identifier, tag_event, lone_tag, lone_specifiers, declaration, list_of, items_of, members_of, definition, script_by, script_if, script_of}
+use Rattle.cr_scopes_events.specs.Scripts.{kind_if, kind_at, first_if, parts_if, parts_at, inside, in_scope, in_scopes, block, storage_of, event_by, declarator_in, declares, declaration_in, is_identifier, tag_event, lone_tag, lone_specifiers, declaration, list_of, items_of, members_of, definition, script_by, script_if, script_of}
 use Rattle.cr_scopes_events.specs.Events.{events_by, events_at}
 use Rattle.cr_scopes_events.proofs.Walks.{events_ruled}
 use Rattle.cr_scopes_visibility.specs.Sight.Scopes.{is_using, is_tagging}
 use Rattle.cr_scopes_visibility.specs.Once.Told.{tells, count_of, weight_of, AreWeights, named_by, is_declaring, AreBounds}
 use Rattle.cr_scopes_visibility.specs.Once.Laws
-
-some_same : {A : Type 0} (x y : A) → Some x ≡ Some y → x ≡ y
-some_same x y e = cc
 
 pub count_append : (s : ℕ) (xs ys : List Event) → count_of s (xs ++ ys) ≡ count_of s xs + count_of s ys
 count_append s [] ys = omega arith
@@ -147,7 +145,7 @@ module _ (nodes : List Node) (v w : ℕ → ℕ) (s : ℕ) (are : AreBounds node
         where
           at_node : (o : Option Node) → slice_get nodes p ≡ o → kind_if o ≡ Some kind.InitDeclarator → weight_of named (take 1 (parts_if o)) + weight_of v (drop 1 (parts_if o)) ≤ w p
           at_node None at f = absurd cc
-          at_node (Some m) at f = of_parts p m at (some_same m.kind kind.InitDeclarator f) m.parts refl
+          at_node (Some m) at f = of_parts p m at (same_Some m.kind kind.InitDeclarator f) m.parts refl
 
   members_few : (structure : ℕ) (ps : List ℕ) → cost (declaration_in (Members structure) nodes ps) ≤ weight_of v ps
   members_few structure ps =
@@ -168,7 +166,7 @@ module _ (nodes : List Node) (v w : ℕ → ℕ) (s : ℕ) (are : AreBounds node
       tagged : m.kind ≡ kind.StructTag → (o : Option Node) → slice_get nodes p ≡ o → cost (lone_tag (first_if o)) ≤ v p
       tagged e None f = omega arith
       tagged e (Some x) f =
-          let same : m ≡ x = some_same m x (sym at ∙ f) in
+          let same : m ≡ x = same_Some m x (sym at ∙ f) in
           let h = tag_none p x f (ap (λ (y : Node). is_tagging y.kind) (sym same) ∙ ap is_tagging e) role.Alone true in
           omega (arith, h)
 
@@ -330,7 +328,7 @@ module _ (nodes : List Node) (weight : ℕ → ℕ) (token : ℕ) (are : AreWeig
 
   first_of : (ps : List ℕ) (q : ℕ) → slice_get ps 0 ≡ Some q → weight q + weight_of weight (drop 1 ps) ≤ weight_of weight ps
   first_of [] q e = absurd cc
-  first_of (p ∷ ps) q e = let same : p ≡ q = some_same p q e in let one = ap weight same in omega (arith, one)
+  first_of (p ∷ ps) q e = let same : p ≡ q = same_Some p q e in let one = ap weight same in omega (arith, one)
 
   bounds : AreBounds nodes weight weight token
   bounds = record {

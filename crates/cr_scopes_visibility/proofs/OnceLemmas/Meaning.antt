@@ -1,7 +1,8 @@
 -- What is visible at a name is the latest declaration in scope, and so is what the name stands for, where that has no linkage.
-use Rattle.std.proofs.Common.{◌≡◌, ℕ, zero, suc, ◌+◌, ◌<◌, ◌≤◌, ◌==◌, Bool, true, false, not, ◌&&◌, ◌||◌, ◌⊎◌, inl, inr, List, [], ◌∷◌, ◌++◌, Option, None, Some, length, slice_get, slice_index_or, refl, sym, ap, subst, ◌∙◌, arith}
+use Rattle.std.proofs.Common.{◌≡◌, ℕ, zero, suc, ◌+◌, ◌<◌, ◌≤◌, ◌==◌, Bool, true, false, not, ◌&&◌, ◌||◌, List, [], ◌∷◌, Option, None, Some, length, slice_get, slice_index_or, refl, sym, ap, subst, ◌∙◌, arith}
 use Rattle.std.specs.Prelude.{if◌then◌else◌}
 use Rattle.std.proofs.lemmas.Bool.{false≢true, and_parts, eqb-true, eq-eqb, ltb-true}
+use Rattle.std.proofs.lemmas.Option.{same_Some}
 use Rattle.cr_scopes_events.specs.declared.event.Role.{Role}
 use Rattle.cr_scopes_events.specs.declared.event.Role.TheVariants as role
 use Rattle.cr_scopes_events.specs.declared.event.Event.{Event}
@@ -11,18 +12,18 @@ use Rattle.cr_scopes.specs.declared.scope.Space.TheVariants.{Ordinary}
 use Rattle.cr_scopes.specs.declared.scope.Found.{Found}
 use Rattle.cr_scopes.specs.declared.scope.Look.{Look}
 use Rattle.cr_scopes.specs.Looking.{stands_in, begun, noted_if, look}
-use Rattle.cr_scopes.specs.Resolved.{space_of, space_number, declares_by, told_if, told_of, told, begins, count_of as count_before, number_of, with_token, is_number, entity_of, past_of, told_below}
-use Rattle.cr_scopes.specs.declared.names.Entity.{Entity}
-use Rattle.cr_scopes_bindings.specs.Entities.{entity_at, first_in, first_if, first_of}
+use Rattle.cr_scopes.specs.Resolved.{space_of, space_number, declares_by, told_if, told_of, told, begins, count_of as count_before, number_of, entity_of, past_of, told_below}
+use Rattle.cr_scopes_bindings.specs.Entities.{entity_at, first_if, first_of}
 use Rattle.cr_scopes_bindings.specs.Visible.{is_named, latest, visible}
 use Rattle.cr_scopes_visibility.specs.Alone.Alone.{IsAlone}
 use Rattle.cr_scopes_visibility.specs.Alone.Sight.{is_used}
 use Rattle.cr_scopes_visibility.proofs.AloneLemmas.Telling.{AreRight, all_right, token_told, none_other}
-use Rattle.cr_scopes_visibility.proofs.AloneLemmas.First.{one_number, number_is, some_same, number_same, told_there, within_is}
+use Rattle.cr_scopes_visibility.proofs.AloneLemmas.First.{one_number, number_is, number_same, told_there, within_is}
 use Rattle.cr_scopes_visibility.specs.Uses.Uses.{is_use}
 use Rattle.cr_scopes_visibility.proofs.ToldLemmas.Events.{onto, all_came}
 use Rattle.cr_scopes_visibility.specs.Once.Told.{count_of}
 use Rattle.cr_scopes_visibility.specs.Once.Laws
+use Rattle.cr_scopes_visibility.proofs.AloneLemmas.Sight.{first_declares}
 
 -- what is told as an ordinary identifier declares one
 pub ordinary_space : (r : Role) → stands_in Ordinary r ≡ true → space_of r ≡ Ordinary
@@ -115,42 +116,6 @@ module _ (name : ℕ → ℕ) (tok : ℕ) where
 
 -- ---- the token that an entity begins with
 
--- it stands for the entity
-record IsDeclarer (at : ℕ → Option Told) (k t : ℕ) : Type 0 where
-  own : Told
-  is : at t ≡ Some own
-  declares : own.declares ≡ true
-  number : is_number (number_of at (at t)) k ≡ true
-
-behind : (ts : List ℕ) (m t : ℕ) → first_in (ts ++ m ∷ []) ≡ Some t → (first_in ts ≡ Some t) ⊎ (m ≡ t)
-behind [] m t e = inr (some_same m t e)
-behind (u ∷ ts) m t e = inl e
-
-abbrev declared_by : Entity → List ℕ
-declared_by e = e.declared
-
-first_declares : (at : ℕ → Option Told) (m k t : ℕ) → first_in (entity_of at m k).declared ≡ Some t → IsDeclarer at k t
-first_declares at zero k t e = let never : None ≡ Some t = e in absurd cc
-first_declares at (suc m) k t e = by (is_number (number_of at (at m)) k) refl (at m) refl e (λ f. first_declares at m k t f)
-  where
-    added : (x : Told) → at m ≡ Some x → x.declares ≡ true → is_number (number_of at (at m)) k ≡ true → (first_in (entity_of at m k).declared ≡ Some t) ⊎ (m ≡ t)
-        → (first_in (entity_of at m k).declared ≡ Some t → IsDeclarer at k t) → IsDeclarer at k t
-    added x p d q (inl f) rest = rest f
-    added x p d q (inr same) rest = subst (IsDeclarer at k) same (record { own = x; is = p; declares = d; number = q })
-
-    with_it : (x : Told) → at m ≡ Some x → is_number (number_of at (at m)) k ≡ true → (c : Bool) → x.declares ≡ c
-        → first_in (declared_by (if c then record { declared = (entity_of at m k).declared ++ m ∷ []; uses = (entity_of at m k).uses; space = x.space }
-        else record { declared = (entity_of at m k).declared; uses = (entity_of at m k).uses ++ m ∷ []; space = x.space })) ≡ Some t
-        → (first_in (entity_of at m k).declared ≡ Some t → IsDeclarer at k t) → IsDeclarer at k t
-    with_it x p q true d e rest = added x p d q (behind (entity_of at m k).declared m t e) rest
-    with_it x p q false d e rest = rest e
-
-    by : (b : Bool) → is_number (number_of at (at m)) k ≡ b → (o : Option Told) → at m ≡ o → first_in (declared_by (if b then with_token m o (entity_of at m k) else entity_of at m k)) ≡ Some t
-        → (first_in (entity_of at m k).declared ≡ Some t → IsDeclarer at k t) → IsDeclarer at k t
-    by false q o p e rest = rest e
-    by true q None p e rest = rest e
-    by true q (Some x) p e rest = with_it x p q x.declares refl e rest
-
 -- ---- the law
 
 pub meant : Laws.WhatIsVisibleIsMeant
@@ -177,7 +142,7 @@ meant name events tokens names token site declared resolved low alone used h few
         let entity : slice_get names.entities k ≡ Some (entity_of at tokens k) = resolved.names.entities k (let c = resolved.names.count in omega (arith, less, c)) in
         let own = first_declares at tokens k token (ap first_if (sym entity) ∙ h) in
         let number = number_is at (at token) k (number_same (number_of at (at token)) k own.number) in
-        let one : number.0 ≡ own.own = some_same number.0 own.own (sym number.1.0 ∙ own.is) in
+        let one : number.0 ≡ own.own = same_Some number.0 own.own (sym number.1.0 ∙ own.is) in
         let told_own = token_told name token (past_of events (length events)) alone right own.own (told_there name events tokens token own.own own.is) in
         let first : number.0.first ≡ token = ap (λ (y : Told). y.first) one ∙ told_own.1 in
         let begins_own : begins (at token) token ≡ true = subst (λ f. begins (at f) f ≡ true) first number.1.1.0 in

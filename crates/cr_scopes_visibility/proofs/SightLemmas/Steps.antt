@@ -19,6 +19,19 @@ use Rattle.cr_scopes_bindings.specs.declared.scoped.Binding.TheVariants.{Bound, 
 use Rattle.cr_scopes_bindings.specs.Stacks.{outside, entered, stack_of}
 use Rattle.cr_scopes_visibility.specs.Alone.Sight.{is_bound, is_used, IsSeen}
 
+-- ---- an event of a list, and those behind it
+
+pub came_none : (es : List Event) (k : ℕ) → slice_get es k ≡ None → drop (suc k) es ≡ drop k es
+came_none [] zero e = refl
+came_none [] (suc k) e = refl
+came_none (x ∷ es) zero e = absurd cc
+came_none (x ∷ es) (suc k) e = came_none es k e
+
+pub came_some : (es : List Event) (k : ℕ) (x : Event) → slice_get es k ≡ Some x → drop k es ≡ x ∷ drop (suc k) es
+came_some [] k x e = absurd cc
+came_some (y ∷ es) zero x e = let same : y ≡ x = cc in ap (λ z. z ∷ es) same
+came_some (y ∷ es) (suc k) x e = came_some es k x e
+
 module _ (name : ℕ → ℕ) (tok site : ℕ) where
   -- ---- events
 
@@ -82,15 +95,6 @@ module _ (name : ℕ → ℕ) (tok site : ℕ) where
   unused_asked st (e ∷ es) h = (one_asked st e h.0, unused_asked (entered name e st) es h.1)
 
   -- ---- what one event does
-
-  outside_unbound : (st : List Binding) → is_bound tok st ≡ false → is_bound tok (outside st) ≡ false
-  outside_unbound [] h = h
-  outside_unbound (Mark ∷ st) h = h
-  outside_unbound (Bound n t ∷ st) h = outside_unbound st (rest (t == tok) h)
-    where
-      rest : (b : Bool) → (b || is_bound tok st) ≡ false → is_bound tok st ≡ false
-      rest true e = absurd (false≢true (sym e))
-      rest false e = e
 
   other_unbound : (t : ℕ) (r : Role) (st : List Binding) → (t ≡ tok → ⊥) → is_bound tok st ≡ false → is_bound tok (entered name (event.Name t r) st) ≡ false
   other_unbound t r st other h = by (stands_in Ordinary r)
@@ -245,17 +249,6 @@ module _ (name : ℕ → ℕ) (tok site : ℕ) where
   record Came (past rest : List Event) : Type 0 where
     unseen : IsSeen name tok site past → ⊥
     left : AreAsked (stack_of name past) rest
-
-  came_none : (es : List Event) (k : ℕ) → slice_get es k ≡ None → drop (suc k) es ≡ drop k es
-  came_none [] zero e = refl
-  came_none [] (suc k) e = refl
-  came_none (x ∷ es) zero e = absurd cc
-  came_none (x ∷ es) (suc k) e = came_none es k e
-
-  came_some : (es : List Event) (k : ℕ) (x : Event) → slice_get es k ≡ Some x → drop k es ≡ x ∷ drop (suc k) es
-  came_some [] k x e = absurd cc
-  came_some (y ∷ es) zero x e = let same : y ≡ x = cc in ap (λ z. z ∷ es) same
-  came_some (y ∷ es) (suc k) x e = came_some es k x e
 
   one_unseen : (past : List Event) (x : Event) → Asked (stack_of name past) x → (IsSeen name tok site past → ⊥) → IsSeen name tok site (x ∷ past) → ⊥
   one_unseen past (event.Name t r) asked h (inl s) = false≢true (sym (asked s.0.0 s.0.1) ∙ s.1)

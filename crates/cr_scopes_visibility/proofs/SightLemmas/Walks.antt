@@ -1,8 +1,9 @@
 -- An identifier that is declared in a block or a `for` isn't in scope outside of it.
-use Rattle.std.proofs.Common.{◌≡◌, ℕ, zero, suc, ◌+◌, ◌-◌, ◌<◌, ◌==◌, ◌⊎◌, inl, inr, Bool, true, false, List, [], ◌∷◌, ◌++◌, Option, None, Some, length, take, drop, nat_lt, slice_get, refl, sym, ap, subst, ◌∙◌, arith}
+use Rattle.std.proofs.Common.{◌≡◌, ℕ, zero, suc, ◌+◌, ◌-◌, ◌<◌, ◌==◌, Bool, true, false, List, [], ◌∷◌, ◌++◌, Option, None, Some, length, take, drop, nat_lt, slice_get, refl, sym, ap, subst, ◌∙◌, arith}
 use Rattle.std.specs.Prelude.{if◌then◌else◌}
 use Rattle.std.specs.List.{flat_map}
 use Rattle.std.proofs.lemmas.Bool.{false≢true, ltb-true, eqb-true, eq-eqb}
+use Rattle.std.proofs.lemmas.Option.{same_Some}
 use Rattle.cr_tokens.specs.declared.token.Token.{Token}
 use Rattle.cr_syntax.specs.declared.node.Kind.{Kind}
 use Rattle.cr_syntax.specs.declared.node.Kind.TheVariants as kind
@@ -19,40 +20,28 @@ use Rattle.cr_scopes_events.specs.declared.naming.Naming.{Naming}
 use Rattle.cr_scopes_events.specs.declared.naming.Naming.TheVariants.{Parameters, Members, Declared}
 use Rattle.cr_scopes_events.specs.declared.declarator.Derivation.{Derivation}
 use Rattle.cr_scopes_events.specs.declared.declarator.Derivation.TheVariants as derivation
-use Rattle.cr_scopes_events.specs.declared.declarator.Declarator.{Declarator}
 use Rattle.cr_scopes_events.specs.Values.{before}
-use Rattle.cr_scopes_events.specs.Declarators.{nowhere, innermost, in_first, derived, declared_by, declared_if, declarator_of}
+use Rattle.cr_scopes_events.specs.Declarators.{declarator_of}
 use Rattle.cr_scopes_events.specs.Scripts.{kind_if, kind_at, first_if, parts_if, parts_at, inside, in_scope, in_scopes, block, storage_of, role_by, event_by, named, declarator_in, declares, declaration_in, is_identifier, tag_event, content_tag, lone_tag, lone_specifiers, declaration, own_parameters, list_of, items_of, members_of, definition, script_by, script_if, script_of}
 use Rattle.cr_scopes_events.specs.Events.{events_by, events_at, events_of}
 use Rattle.cr_scopes_events.proofs.Walks.{events_ruled}
-use Rattle.cr_scopes_events.proofs.Descents.{declarator_ruled}
 use Rattle.cr_scopes.specs.Resolved.{past_of}
 use Rattle.cr_scopes_visibility.specs.Alone.Sight.{is_used, IsSeen}
 use Rattle.cr_scopes_visibility.specs.Sight.Scopes.{is_blocklike, is_using, is_tagging, AreUnder, AreOrderly, IsApart}
 use Rattle.cr_scopes_visibility.specs.Sight.Laws
 use Rattle.cr_scopes_visibility.proofs.SightLemmas.Steps as steps
 use Rattle.cr_scopes_visibility.proofs.SightLemmas.Steps.{AreUnused, AreTame, AreLevel, AreFine}
-
-some_same : {A : Type 0} (x y : A) → Some x ≡ Some y → x ≡ y
-some_same x y e = cc
-
--- a declarator around another
-abbrev is_deriving : Kind → Bool
-is_deriving kind.GroupDeclarator = true
-is_deriving kind.PointerDeclarator = true
-is_deriving kind.ArrayDeclarator = true
-is_deriving kind.FunctionDeclarator = true
-is_deriving other = false
+use Rattle.cr_scopes_visibility.proofs.SightLemmas.Reaching.{is_deriving, reaches}
 
 -- ---- lists
 
-taken : (m : ℕ) (ps : List ℕ) (k p : ℕ) → slice_get (take m ps) k ≡ Some p → slice_get ps k ≡ Some p
+pub taken : (m : ℕ) (ps : List ℕ) (k p : ℕ) → slice_get (take m ps) k ≡ Some p → slice_get ps k ≡ Some p
 taken zero ps k p e = absurd cc
 taken (suc m) [] k p e = absurd cc
 taken (suc m) (q ∷ ps) zero p e = e
 taken (suc m) (q ∷ ps) (suc k) p e = taken m ps k p e
 
-dropped : (m : ℕ) (ps : List ℕ) (k p : ℕ) → slice_get (drop m ps) k ≡ Some p → (j : ℕ) × (slice_get ps j ≡ Some p)
+pub dropped : (m : ℕ) (ps : List ℕ) (k p : ℕ) → slice_get (drop m ps) k ≡ Some p → (j : ℕ) × (slice_get ps j ≡ Some p)
 dropped zero ps k p e = (k, e)
 dropped (suc m) [] k p e = absurd cc
 dropped (suc m) (q ∷ ps) k p e = let x = dropped m ps k p e in (suc x.0, x.1)
@@ -65,11 +54,11 @@ deriving_block kind.FunctionDeclarator h = refl
 deriving_block k h = absurd (false≢true h)
 
 -- the events of parts in turn
-in_turn : (at : ℕ → List Event) (ps : List ℕ) → flat_map (events_by at) (inside ps) ≡ flat_map at ps
+pub in_turn : (at : ℕ → List Event) (ps : List ℕ) → flat_map (events_by at) (inside ps) ≡ flat_map at ps
 in_turn at [] = refl
 in_turn at (p ∷ ps) = ap (λ es. at p ++ es) (in_turn at ps)
 
-role_unused : (s : Storage) (d : Derivation) → is_used (role_by s d) ≡ false
+pub role_unused : (s : Storage) (d : Derivation) → is_used (role_by s d) ≡ false
 role_unused word.TypedefWord d = refl
 role_unused word.ExternWord (derivation.Function f) = refl
 role_unused word.ExternWord derivation.Nothing = refl
@@ -79,68 +68,6 @@ role_unused word.NoWord derivation.Nothing = refl
 role_unused word.NoWord derivation.Other = refl
 
 module _ (nodes : List Node) where
-  -- ---- declarators, from the whole one to the name
-
-  -- what a property that goes from a declarator to its first part says of the name, and of the function declarator next to it
-  record Reaches (P : ℕ → Type 0) (d : Declarator) : Type 0 where
-    name : (x : ℕ) → d.name ≡ Some x → (b : ℕ) × ((m : Node) × ((slice_get nodes b ≡ Some m) × (((m.kind ≡ kind.NameDeclarator) × (m.first ≡ x)) × P b)))
-    next : (l : ℕ) → d.next ≡ derivation.Function l → (m : Node) × ((slice_get nodes l ≡ Some m) × ((m.kind ≡ kind.FunctionDeclarator) × P l))
-
-  module _ (P : ℕ → Type 0) (goes : (a b : ℕ) (m : Node) → slice_get nodes a ≡ Some m → is_deriving m.kind ≡ true → slice_get m.parts 0 ≡ Some b → P a → P b) where
-    reaches_nowhere : Reaches P nowhere
-    reaches_nowhere = record { name = λ x e. (let never : None ≡ Some x = e in absurd cc); next = λ l e. (let never : derivation.Nothing ≡ derivation.Function l = e in absurd cc) }
-
-    around : (outer : Derivation) (d : Declarator) → Reaches P d → ((l : ℕ) → outer ≡ derivation.Function l → (m : Node) × ((slice_get nodes l ≡ Some m) × ((m.kind ≡ kind.FunctionDeclarator) × P l))) → Reaches P (derived outer d)
-    around outer d h own = record { name = h.name; next = λ l e. by d.next refl e }
-      where
-        by : (x : Derivation) → d.next ≡ x → {l : ℕ} → innermost outer x ≡ derivation.Function l → (m : Node) × ((slice_get nodes l ≡ Some m) × ((m.kind ≡ kind.FunctionDeclarator) × P l))
-        by derivation.Nothing q {l = l} e = own l e
-        by (derivation.Function f) q {l = l} e = h.next l (q ∙ e)
-        by derivation.Other q {l = l} e = let never : derivation.Other ≡ derivation.Function l = e in absurd cc
-
-    abbrev Inner : ℕ → Type 0
-    Inner a = (b : ℕ) → b < a → P b → Reaches P (declarator_of nodes b)
-
-    first_reaches : (a : ℕ) (m : Node) → slice_get nodes a ≡ Some m → is_deriving m.kind ≡ true → P a → Inner a → (ps : List ℕ) → m.parts ≡ ps → Reaches P (in_first (before nowhere a (declarator_of nodes)) ps)
-    first_reaches a m at derives p rest [] e = reaches_nowhere
-    first_reaches a m at derives p rest (b ∷ ps) e = by (nat_lt b a) refl
-      where
-        by : (c : Bool) → nat_lt b a ≡ c → Reaches P (if c then declarator_of nodes b else nowhere)
-        by true q = rest b (ltb-true b a q) (goes a b m at derives (ap (λ l. slice_get l 0) e) p)
-        by false q = reaches_nowhere
-
-    no_function : (outer : Derivation) → (outer ≡ derivation.Nothing) ⊎ (outer ≡ derivation.Other) → (l : ℕ) → outer ≡ derivation.Function l → (m : Node) × ((slice_get nodes l ≡ Some m) × ((m.kind ≡ kind.FunctionDeclarator) × P l))
-    no_function outer (inl x) l e = let never : derivation.Nothing ≡ derivation.Function l = sym x ∙ e in absurd cc
-    no_function outer (inr x) l e = let never : derivation.Other ≡ derivation.Function l = sym x ∙ e in absurd cc
-
-    kind_reaches : (a : ℕ) (m : Node) → slice_get nodes a ≡ Some m → P a → Inner a → (k : Kind) → m.kind ≡ k → Reaches P (declared_by k (before nowhere a (declarator_of nodes)) a m)
-    kind_reaches a m at p rest kind.NameDeclarator e = record {
-      name = λ x f. (let same : m.first ≡ x = cc in (a, (m, (at, ((e, same), p)))));
-      next = λ l f. (let never : derivation.Nothing ≡ derivation.Function l = f in absurd cc);
-    }
-    kind_reaches a m at p rest kind.GroupDeclarator e =
-        around derivation.Nothing (in_first (before nowhere a (declarator_of nodes)) m.parts) (first_reaches a m at (ap is_deriving e) p rest m.parts refl) (no_function derivation.Nothing (inl refl))
-    kind_reaches a m at p rest kind.PointerDeclarator e =
-        around derivation.Other (in_first (before nowhere a (declarator_of nodes)) m.parts) (first_reaches a m at (ap is_deriving e) p rest m.parts refl) (no_function derivation.Other (inr refl))
-    kind_reaches a m at p rest kind.ArrayDeclarator e =
-        around derivation.Other (in_first (before nowhere a (declarator_of nodes)) m.parts) (first_reaches a m at (ap is_deriving e) p rest m.parts refl) (no_function derivation.Other (inr refl))
-    kind_reaches a m at p rest kind.FunctionDeclarator e =
-        around (derivation.Function a) (in_first (before nowhere a (declarator_of nodes)) m.parts) (first_reaches a m at (ap is_deriving e) p rest m.parts refl)
-        (λ l f. (let same : a ≡ l = cc in subst (λ x. (y : Node) × ((slice_get nodes x ≡ Some y) × ((y.kind ≡ kind.FunctionDeclarator) × P x))) same (m, (at, (e, p)))))
-    kind_reaches a m at p rest k e = reaches_nowhere
-
-    reaches_if : (a : ℕ) → P a → Inner a → (o : Option Node) → slice_get nodes a ≡ o → Reaches P (declared_if o (before nowhere a (declarator_of nodes)) a)
-    reaches_if a p rest None at = reaches_nowhere
-    reaches_if a p rest (Some m) at = kind_reaches a m at p rest m.kind refl
-
-    reaches_by : (fuel a : ℕ) → a < fuel → P a → Reaches P (declarator_of nodes a)
-    reaches_by zero a low p = absurd (omega (arith, low))
-    reaches_by (suc fuel) a low p =
-        subst (Reaches P) (sym (declarator_ruled nodes a)) (reaches_if a p (λ b less q. reaches_by fuel b (omega (arith, low, less)) q) (slice_get nodes a) refl)
-
-    reaches : (a : ℕ) → P a → Reaches P (declarator_of nodes a)
-    reaches a p = reaches_by (suc a) a (omega arith) p
-
   -- ---- under the holder
 
   module _ (tokens : List Token) (items : List ℕ) (name : ℕ → ℕ) (holder : ℕ) (hold : Node) (under : ℕ → Bool) (tok site : ℕ) (hold_at : slice_get nodes holder ≡ Some hold) (blocklike : is_blocklike hold.kind ≡ true)
@@ -148,7 +75,7 @@ module _ (nodes : List Node) where
     -- nodes of another kind
     not_holder : (i : ℕ) (m : Node) → slice_get nodes i ≡ Some m → is_blocklike m.kind ≡ false → i ≡ holder → ⊥
     not_holder i m at other same =
-        let one : m ≡ hold = some_same m hold (sym at ∙ ap (slice_get nodes) same ∙ hold_at) in
+        let one : m ≡ hold = same_Some m hold (sym at ∙ ap (slice_get nodes) same ∙ hold_at) in
         false≢true (sym other ∙ ap (λ (y : Node). is_blocklike y.kind) one ∙ blocklike)
 
     -- parts of such a node stand under the holder where it does
@@ -161,7 +88,7 @@ module _ (nodes : List Node) where
     -- a declarator that doesn't stand there doesn't name the token
     named_outside : (q : ℕ) → under q ≡ false → (declarator_of nodes q).name ≡ Some tok → ⊥
     named_outside q out e =
-        let x = (reaches (λ a. under a ≡ false) (first_alike false) q out).name tok e in
+        let x = (reaches nodes (λ a. under a ≡ false) (first_alike false) q out).name tok e in
         false≢true (sym x.1.1.1.1 ∙ apart.declared x.0 x.1.0 x.1.1.0 x.1.1.1.0.0 x.1.1.1.0.1)
 
     -- ---- nodes
@@ -285,7 +212,7 @@ module _ (nodes : List Node) where
             tags : (o : Option Node) → o ≡ Some x → is_tagging x.kind ≡ true → Fine u (lone_tag (first_if o))
             tags None e tagged = let never : None ≡ Some x = e in absurd cc
             tags (Some y) e tagged =
-                let same : y ≡ x = some_same y x e in
+                let same : y ≡ x = same_Some y x e in
                 a_tag p y (at_p ∙ sym e) (subst (λ (z : Node). is_tagging z.kind ≡ true) (sym same) tagged) role.Alone refl true
 
             by : (k : Kind) → x.kind ≡ k → Fine u (lone_specifiers nodes p (Some k))
@@ -303,9 +230,9 @@ module _ (nodes : List Node) where
           where
             by : (d : Derivation) → (declarator_of nodes q).next ≡ d → Under (list_of nodes d)
             by (derivation.Function l) e =
-                let x = (reaches (λ a. under a ≡ u) (first_alike u) q mode).next l e in
+                let x = (reaches nodes (λ a. under a ≡ u) (first_alike u) q mode).next l e in
                 dropped_under 1 (parts_at nodes l)
-                (parts_of l (λ m at_l. (let same : m ≡ x.0 = some_same m x.0 (sym at_l ∙ x.1.0) in ap (λ (y : Node). is_blocklike y.kind) same ∙ ap is_blocklike x.1.1.0)) x.1.1.1)
+                (parts_of l (λ m at_l. (let same : m ≡ x.0 = same_Some m x.0 (sym at_l ∙ x.1.0) in ap (λ (y : Node). is_blocklike y.kind) same ∙ ap is_blocklike x.1.1.0)) x.1.1.1)
             by derivation.Nothing e = none_under
             by derivation.Other e = none_under
 
@@ -385,9 +312,6 @@ module _ (nodes : List Node) where
             (behind_own (drop 2 m.parts) refl)
 
       -- ---- all kinds
-
-      abbrev is_at : Bool
-      is_at = under i
 
       a_block : (m : Node) → slice_get nodes i ≡ Some m → (a b : List ℕ) → ((u : Bool) → Under u m.parts → Under u a) → ((u : Bool) → Under u m.parts → Under u b) → Fine (under i) (block a b [])
       a_block m here_i a b first second = by (i == holder) refl

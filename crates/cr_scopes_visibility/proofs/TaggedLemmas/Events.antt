@@ -2,6 +2,7 @@
 use Rattle.std.proofs.Common.{◌≡◌, ℕ, zero, suc, ◌+◌, ◌<◌, ◌≤◌, ◌==◌, ◌&&◌, ◌⊎◌, not, Bool, true, false, inl, inr, List, [], ◌∷◌, ◌++◌, Option, None, Some, refl, sym, ap, subst, ◌∙◌, if◌then◌else◌, arith}
 use Rattle.std.specs.Option.{is_some}
 use Rattle.std.proofs.lemmas.Bool.{false≢true, cases_lt, eqb-true, eq-eqb, and_parts}
+use Rattle.std.proofs.lemmas.Option.{same_Some}
 use Rattle.cr_tokens.specs.declared.token.Token.{Token}
 use Rattle.cr_syntax.specs.declared.node.Node.{Node}
 use Rattle.cr_scopes_events.specs.declared.event.Role.{Role}
@@ -18,9 +19,6 @@ use Rattle.cr_scopes_bindings.specs.Nodes.{tag_at}
 use Rattle.cr_scopes_visibility.proofs.ToldLemmas.Events.{onto, onto_append}
 use Rattle.cr_scopes_visibility.specs.Tagged.Tagged.{AreTagsApart, AreMarked}
 
-some_same : {A : Type 0} (x y : A) → Some x ≡ Some y → x ≡ y
-some_same x y e = cc
-
 -- ---- roles of tags
 
 stands : (r : Role) → space_of r ≡ Tag → stands_in Tag r ≡ true
@@ -34,9 +32,6 @@ begun_first name past t role.Content e = refl
 begun_first name past t role.Alone e = refl
 begun_first name past t role.Mentioned e = refl
 begun_first name past t r e = let never : Ordinary ≡ Tag = e in absurd cc
-
-begun_role : (name : ℕ → ℕ) (past : List Event) (t : ℕ) (r : Role) → (begun name past t r).role ≡ r
-begun_role name past t r = refl
 
 -- a tag declares, but for one that is mentioned where one is in scope
 declares_unless : (r : Role) (l : Look) → space_of r ≡ Tag → (is_mention r && is_some l.seen) ≡ false → declares_by r l ≡ true
@@ -265,7 +260,7 @@ module _ (tokens : List Token) (nodes : List Node) (apart : AreTagsApart tokens 
       where
         by_node : (j token : ℕ) → Has j token → more j → StandsForOwn more token after
         by_node j token has (inl did) = stands_moved done more past after kept j token has did (h.stand j token has did)
-        by_node j token has (inr same) = subst (λ x. StandsForOwn more x after) (some_same t token (sym own ∙ ap (tag_at nodes tokens) (sym same) ∙ has)) goes.itself
+        by_node j token has (inr same) = subst (λ x. StandsForOwn more x after) (same_Some t token (sym own ∙ ap (tag_at nodes tokens) (sym same) ∙ has)) goes.itself
 
         by_name : (s : ℕ) (b : Bool) → (name t == s) ≡ b → AreOwn more after (look name Tag s zero after)
         by_name s true q = subst (λ x. AreOwn more after (look name Tag x zero after)) (eqb-true (name t) s q) (subst (AreOwn more after) (sym look_is) goes.sight)

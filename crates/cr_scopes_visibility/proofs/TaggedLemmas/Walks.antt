@@ -4,7 +4,7 @@ use Rattle.std.specs.List.{flat_map}
 use Rattle.std.proofs.lemmas.Bool.{false≢true, lt-ltb}
 use Rattle.std.proofs.lemmas.List.{append-nil}
 use Rattle.std.proofs.lemmas.Grind.{flat_map-append}
-use Rattle.std.proofs.lemmas.Option.{slice_get_within}
+use Rattle.std.proofs.lemmas.Option.{slice_get_within, same_Some}
 use Rattle.cr_tokens.specs.declared.token.Token.{Token}
 use Rattle.cr_syntax.specs.declared.node.Kind.{Kind}
 use Rattle.cr_syntax.specs.declared.node.Kind.TheVariants as kind
@@ -42,48 +42,11 @@ use Rattle.cr_scopes_visibility.proofs.TaggedLemmas.Events as events
 use Rattle.cr_scopes_visibility.proofs.TaggedLemmas.Events.{Runs, Holds, scoped}
 use Rattle.cr_scopes_visibility.proofs.TaggedLemmas.Gaps as gaps
 use Rattle.cr_scopes_visibility.proofs.TaggedLemmas.Gaps.{HasGap}
-
-some_same : {A : Type 0} (x y : A) → Some x ≡ Some y → x ≡ y
-some_same x y e = cc
+use Rattle.cr_scopes_visibility.proofs.ToldLemmas.Walks.{listed_up, none_listed, name_is, split}
 
 -- ---- nodes that are listed
 
-listed_up : (nodes : List Node) (b e : ℕ) (ps : List ℕ) → AreListed nodes b ps e → b ≤ e
-listed_up nodes b e [] no_node = omega arith
-listed_up nodes b e (p ∷ ps) (one_more {n = n} at own rest) = let low = listed_up nodes b p n.parts own in let high = listed_up nodes (p + 1) e ps rest in omega (arith, low, high)
-
--- a row in two
-record AreSplit (nodes : List Node) (b e : ℕ) (ps qs : List ℕ) : Type 0 where
-  middle : ℕ
-  first : AreListed nodes b ps middle
-  second : AreListed nodes middle qs e
-
-split : (nodes : List Node) (m b e : ℕ) (ps : List ℕ) → AreListed nodes b ps e → AreSplit nodes b e (take m ps) (drop m ps)
-split nodes zero b e ps h = record { middle = b; first = no_node; second = h }
-split nodes (suc m) b e [] no_node = record { middle = b; first = no_node; second = no_node }
-split nodes (suc m) b e (p ∷ ps) (one_more at own rest) = let x = split nodes m (p + 1) e ps rest in record { middle = x.middle; first = one_more at own x.first; second = x.second }
-
-none_listed : (nodes : List Node) (b e : ℕ) (ps : List ℕ) → ps ≡ [] → AreListed nodes b ps e → b ≡ e
-none_listed nodes b e [] q no_node = refl
-none_listed nodes b e (p ∷ ps) q h = absurd cc
-
 -- ---- names
-
--- what a part of a declarator names, it declares
-name_is : (nodes : List Node) (q token : ℕ) → (declarator_of nodes q).name ≡ Some token → name_at nodes q ≡ Some token
-name_is nodes q token e = by (slice_get nodes q) refl
-  where
-    nameless : declarator_of nodes q ≡ nowhere → ⊥
-    nameless f = let never : None ≡ Some token = sym (ap (λ (d : Declarator). d.name) f) ∙ e in cc
-
-    by_kind : (m : Node) → slice_get nodes q ≡ Some m → (k : Kind) → m.kind ≡ k → named_by k m.first (declarator_of nodes q).name ≡ Some token
-    by_kind m at kind.Enumerator f =
-        absurd (nameless (declarator_ruled nodes q ∙ ap (λ o. declared_if o (before nowhere q (declarator_of nodes)) q) at ∙ ap (λ (k : Kind). declared_by k (before nowhere q (declarator_of nodes)) q m) f))
-    by_kind m at k f = e
-
-    by : (o : Option Node) → slice_get nodes q ≡ o → named_if o (declarator_of nodes q).name ≡ Some token
-    by None at = absurd (nameless (declarator_ruled nodes q ∙ ap (λ o. declared_if o (before nowhere q (declarator_of nodes)) q) at))
-    by (Some m) at = by_kind m at m.kind refl
 
 role_untagged : (storage : Storage) (d : Derivation) → stands_in Tag (role_by storage d) ≡ false
 role_untagged TypedefWord d = refl
@@ -237,7 +200,7 @@ module _ (tokens : List Token) (nodes : List Node) (apart : AreTagsApart tokens 
         (through x.middle p (drop 1 m.parts) x.second (omega (arith, low)))))
       where
         plain : (y : Node) → slice_get nodes p ≡ Some y → is_tagging y.kind ≡ false
-        plain y there = let same : y ≡ m = some_same y m (sym there ∙ here) in ap (λ (z : Node). is_tagging z.kind) same ∙ ap is_tagging is
+        plain y there = let same : y ≡ m = same_Some y m (sym there ∙ here) in ap (λ (z : Node). is_tagging z.kind) same ∙ ap is_tagging is
 
     declared : (way : Naming) (p : ℕ) (m : Node) (b : ℕ) → slice_get nodes p ≡ Some m → Row b m.parts p → p < i → Leads b (declares way nodes p (kind_at nodes p)) (p + 1)
     declared way p m b here own low = subst (λ o. Leads b (declares way nodes p (kind_if o)) (p + 1)) (sym here) (by m.kind refl)
@@ -258,7 +221,7 @@ module _ (tokens : List Token) (nodes : List Node) (apart : AreTagsApart tokens 
 
     module _ (m : Node) (here : slice_get nodes i ≡ Some m) where
       ends_plain : (b : ℕ) (xs : List Step) → is_tagging m.kind ≡ false → Leads b xs i → Leads b xs (i + 1)
-      ends_plain b xs plain f = then_passed b i xs (λ n there. ap (λ (z : Node). is_tagging z.kind) (some_same n m (sym there ∙ here)) ∙ plain) f
+      ends_plain b xs plain f = then_passed b i xs (λ n there. ap (λ (z : Node). is_tagging z.kind) (same_Some n m (sym there ∙ here)) ∙ plain) f
 
       a_use : (b : ℕ) → is_using m.kind ≡ true → Leads b (Happens (event.Name m.first role.Used) ∷ []) b
       a_use b used = events.a_name tokens nodes apart name b m.first role.Used refl (λ j has. apart.uses j i m.first m has here used refl)

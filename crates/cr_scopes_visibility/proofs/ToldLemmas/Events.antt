@@ -15,9 +15,7 @@ use Rattle.cr_scopes_visibility.specs.Alone.Sight.{is_used}
 use Rattle.cr_scopes_visibility.specs.Sight.Scopes.{is_using}
 use Rattle.cr_scopes_visibility.specs.Uses.Uses.{is_use, is_declared, is_before}
 use Rattle.cr_scopes_visibility.specs.Told.Told.{IsDeclaredBelow, IsTold, AreApart}
-
-pub some_same : {A : Type 0} (x y : A) → Some x ≡ Some y → x ≡ y
-some_same x y e = cc
+use Rattle.cr_scopes_visibility.proofs.SightLemmas.Steps.{came_none, came_some}
 
 -- one of two that isn't the first is the second
 other_of : (a b : Bool) → a ≡ false → (a || b) ≡ true → b ≡ true
@@ -153,17 +151,6 @@ module _ (nodes : List Node) (apart : AreApart nodes) where
       ]
 
 -- ---- of events that came, the latest first
-
-came_none : (es : List Event) (k : ℕ) → slice_get es k ≡ None → drop (suc k) es ≡ drop k es
-came_none [] zero e = refl
-came_none [] (suc k) e = refl
-came_none (x ∷ es) zero e = absurd cc
-came_none (x ∷ es) (suc k) e = came_none es k e
-
-came_some : (es : List Event) (k : ℕ) (x : Event) → slice_get es k ≡ Some x → drop k es ≡ x ∷ drop (suc k) es
-came_some [] k x e = absurd cc
-came_some (y ∷ es) zero x e = let same : y ≡ x = cc in ap (λ z. z ∷ es) same
-came_some (y ∷ es) (suc k) x e = came_some es k x e
 
 came : (events : List Event) (k : ℕ) → onto (past_of events k) (drop k events) ≡ onto [] events
 came events zero = refl

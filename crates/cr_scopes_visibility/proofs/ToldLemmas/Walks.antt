@@ -2,7 +2,7 @@
 use Rattle.std.proofs.Common.{◌≡◌, ℕ, zero, suc, ◌+◌, ◌-◌, ◌<◌, ◌≤◌, ◌⊎◌, inl, inr, Bool, true, false, List, [], ◌∷◌, ◌++◌, Option, None, Some, length, take, drop, nat_lt, ◌||◌, slice_get, refl, sym, ap, subst, ◌∙◌, if◌then◌else◌, arith}
 use Rattle.std.specs.List.{flat_map}
 use Rattle.std.proofs.lemmas.Bool.{false≢true, eq-eqb, lt-ltb}
-use Rattle.std.proofs.lemmas.Option.{slice_get_within}
+use Rattle.std.proofs.lemmas.Option.{slice_get_within, same_Some}
 use Rattle.cr_tokens.specs.declared.token.Token.{Token}
 use Rattle.cr_syntax.specs.declared.node.Kind.{Kind}
 use Rattle.cr_syntax.specs.declared.node.Kind.TheVariants as kind
@@ -32,36 +32,36 @@ use Rattle.cr_scopes_events.proofs.Descents.{declarator_ruled}
 use Rattle.cr_scopes_visibility.specs.Sight.Scopes.{is_using, is_tagging}
 use Rattle.cr_scopes_visibility.specs.Told.Told.{is_declaration, is_leaf, IsHeld, IsDeclarator, IsEnumerator, IsTold, AreApart}
 use Rattle.cr_scopes_visibility.specs.Told.Laws
-use Rattle.cr_scopes_visibility.proofs.ToldLemmas.Events.{some_same, onto, Holds, at_first, name_more, opens_more, closes_more, node_more, member_more, use_more, further, all_came}
+use Rattle.cr_scopes_visibility.proofs.ToldLemmas.Events.{onto, Holds, at_first, name_more, opens_more, closes_more, node_more, member_more, use_more, further, all_came}
 use Rattle.cr_scopes_visibility.proofs.ToldLemmas.Steps as steps
 use Rattle.cr_scopes_visibility.proofs.ToldLemmas.Steps.{Goes, over, Runs}
 use Rattle.cr_scopes_visibility.proofs.ToldLemmas.Again.{AreAgain, EachAgain, told_again, later_onto, list_told, again_holds}
 
 -- ---- nodes that are listed
 
-listed_up : (nodes : List Node) (b e : ℕ) (ps : List ℕ) → AreListed nodes b ps e → b ≤ e
+pub listed_up : (nodes : List Node) (b e : ℕ) (ps : List ℕ) → AreListed nodes b ps e → b ≤ e
 listed_up nodes b e [] no_node = omega arith
 listed_up nodes b e (p ∷ ps) (one_more {n = n} at own rest) = let low = listed_up nodes b p n.parts own in let high = listed_up nodes (p + 1) e ps rest in omega (arith, low, high)
 
 -- a row in two
-record AreSplit (nodes : List Node) (b e : ℕ) (ps qs : List ℕ) : Type 0 where
-  middle : ℕ
-  first : AreListed nodes b ps middle
-  second : AreListed nodes middle qs e
+pub record AreSplit (nodes : List Node) (b e : ℕ) (ps qs : List ℕ) : Type 0 where
+  pub middle : ℕ
+  pub first : AreListed nodes b ps middle
+  pub second : AreListed nodes middle qs e
 
-split : (nodes : List Node) (m b e : ℕ) (ps : List ℕ) → AreListed nodes b ps e → AreSplit nodes b e (take m ps) (drop m ps)
+pub split : (nodes : List Node) (m b e : ℕ) (ps : List ℕ) → AreListed nodes b ps e → AreSplit nodes b e (take m ps) (drop m ps)
 split nodes zero b e ps h = record { middle = b; first = no_node; second = h }
 split nodes (suc m) b e [] no_node = record { middle = b; first = no_node; second = no_node }
 split nodes (suc m) b e (p ∷ ps) (one_more at own rest) = let x = split nodes m (p + 1) e ps rest in record { middle = x.middle; first = one_more at own x.first; second = x.second }
 
-none_listed : (nodes : List Node) (b e : ℕ) (ps : List ℕ) → ps ≡ [] → AreListed nodes b ps e → b ≡ e
+pub none_listed : (nodes : List Node) (b e : ℕ) (ps : List ℕ) → ps ≡ [] → AreListed nodes b ps e → b ≡ e
 none_listed nodes b e [] q no_node = refl
 none_listed nodes b e (p ∷ ps) q h = absurd cc
 
 -- ---- names
 
 -- what a part of a declarator names, it declares
-name_is : (nodes : List Node) (q token : ℕ) → (declarator_of nodes q).name ≡ Some token → name_at nodes q ≡ Some token
+pub name_is : (nodes : List Node) (q token : ℕ) → (declarator_of nodes q).name ≡ Some token → name_at nodes q ≡ Some token
 name_is nodes q token e = by (slice_get nodes q) refl
   where
     nameless : declarator_of nodes q ≡ nowhere → ⊥
@@ -210,7 +210,7 @@ module _ (nodes : List Node) (apart : AreApart nodes) (tokens : List Token) wher
         (passed p (λ y there. plain y there) (after past (initialised way nodes m.parts)) (run past h))
       where
         plain : (y : Node) → slice_get nodes p ≡ Some y → is_using y.kind ≡ false
-        plain y there = let same : y ≡ m = some_same y m (sym there ∙ here) in ap (λ (z : Node). is_using z.kind) same ∙ ap is_using is
+        plain y there = let same : y ≡ m = same_Some y m (sym there ∙ here) in ap (λ (z : Node). is_using z.kind) same ∙ ap is_using is
 
     declared : (way : Naming) (p : ℕ) (m : Node) (b : ℕ) → slice_get nodes p ≡ Some m → Row b m.parts p → p < i → MayHold way p → Leads b (declares way nodes p (kind_at nodes p)) (p + 1)
     declared way p m b here own low may = subst (λ o. Leads b (declares way nodes p (kind_if o)) (p + 1)) (sym here) (by m.kind refl)
@@ -232,7 +232,7 @@ module _ (nodes : List Node) (apart : AreApart nodes) (tokens : List Token) wher
     module _ (m : Node) (here : slice_get nodes i ≡ Some m) where
       -- where it uses no name
       ends_plain : (b : ℕ) (xs : List Step) → is_using m.kind ≡ false → Leads b xs i → Leads b xs (i + 1)
-      ends_plain b xs plain f past h = further nodes apart i (after past xs) (λ n u. absurd (false≢true (sym (ap (λ (z : Node). is_using z.kind) (some_same n m (sym u.0 ∙ here)) ∙ plain) ∙ u.1))) (f past h)
+      ends_plain b xs plain f past h = further nodes apart i (after past xs) (λ n u. absurd (false≢true (sym (ap (λ (z : Node). is_using z.kind) (same_Some n m (sym u.0 ∙ here)) ∙ plain) ∙ u.1))) (f past h)
 
       -- and where it does
       ends_use : (b : ℕ) (xs : List Step) → b ≤ i → is_using m.kind ≡ true → Leads b xs i → Leads b (Happens (event.Name m.first role.Used) ∷ xs) (i + 1)
@@ -245,7 +245,7 @@ module _ (nodes : List Node) (apart : AreApart nodes) (tokens : List Token) wher
 
           told : (n : Node) → slice_get nodes i ≡ Some n → is_named n.first (after (event.Name m.first role.Used ∷ past) xs) ≡ true
           told n there =
-              let same : n ≡ m = some_same n m (sym there ∙ here) in
+              let same : n ≡ m = same_Some n m (sym there ∙ here) in
               ap (λ (z : Node). is_named z.first (after (event.Name m.first role.Used ∷ past) xs)) same
               ∙ steps.named_over nodes apart at m.first (event.Name m.first role.Used ∷ past) xs now
 
@@ -375,7 +375,7 @@ module _ (nodes : List Node) (apart : AreApart nodes) (tokens : List Token) wher
             by kind.StructTag e =
                 let none = none_listed nodes b p x.parts (apart.leaves p x there (ap is_leaf e)) row in
                 subst (λ o. Leads b (lone_tag (first_if o)) (p + 1)) (sym there)
-                (λ past h. passed p (λ y other. ap (λ (z : Node). is_using z.kind) (some_same y x (sym other ∙ there)) ∙ ap is_using e) (after past (lone_tag (Some x.first)))
+                (λ past h. passed p (λ y other. ap (λ (z : Node). is_using z.kind) (same_Some y x (sym other ∙ there)) ∙ ap is_using e) (after past (lone_tag (Some x.first)))
                 (subst (Holds nodes apart (after past (lone_tag (Some x.first)))) none (a_tag b p x there (ap is_tagging e) role.Alone (inr (inl refl)) true past h)))
             by k e = inner p x b there row low
 

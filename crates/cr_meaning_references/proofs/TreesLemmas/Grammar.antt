@@ -1,5 +1,5 @@
 -- Which part of the grammar stands in each place of a node's parts, and what kinds of nodes stand for it.
-use Rattle.std.proofs.Common.{◌≡◌, ℕ, zero, suc, ◌+◌, inl, inr, Bool, true, false, ◌||◌, not, List, [], ◌∷◌, Option, None, Some, drop, length, slice_get, subst}
+use Rattle.std.proofs.Common.{◌≡◌, ℕ, zero, suc, ◌+◌, inl, inr, Bool, true, false, List, [], ◌∷◌, Option, None, Some, drop, length, slice_get, subst}
 use Rattle.std.proofs.lemmas.Bool.{false≢true, or_right}
 use Rattle.cr_syntax.specs.declared.node.Kind.{Kind}
 use Rattle.cr_syntax.specs.declared.node.Node.{Node}
@@ -126,11 +126,6 @@ pub of_part : (test : Part → Bool) (kinds : Kind → Bool) → ((p : Part) (k 
     → (o : Option Part) (k : Kind) → is_of test o ≡ true → Stands o k → kinds k ≡ true
 of_part test kinds f None k h s = absurd (false≢true h)
 of_part test kinds f (Some p) k h s = f p k h s
-
--- a row of a table: where the one is said, the other holds
-pub row : (a b : Bool) → (not a || b) ≡ true → a ≡ true → b ≡ true
-row true b h e = h
-row false b h e = absurd (false≢true e)
 
 pub among_drop : (n : ℕ) (q : Part) (ps : List Part) → is_among q (drop n ps) ≡ true → is_among q ps ≡ true
 among_drop zero q ps h = h

@@ -2,11 +2,10 @@
 use Rattle.std.proofs.Common.{◌≡◌, ℕ, Bool, true, false, ◌&&◌, List, [], Option, None, Some, nat_lt, slice_get, slice_index_or, refl, sym, subst, ap, ◌∙◌, if◌then◌else◌}
 use Rattle.std.proofs.lemmas.Bool.{false≢true, and_parts}
 use Rattle.std.proofs.lemmas.List.{get_or-take}
-use Rattle.std.proofs.lemmas.Option.{slice_get_within}
+use Rattle.std.proofs.lemmas.Option.{slice_get_within, same_Some}
 use Rattle.cr_syntax.specs.declared.node.Kind.TheVariants as kind
 use Rattle.cr_syntax.specs.declared.node.Node.{Node}
 use Rattle.cr_scopes_bindings.specs.Bindings.{entry_if}
-use Rattle.cr_check_types.specs.declared.shape.Shape.{Shape}
 use Rattle.cr_check_types.specs.Types.{Qualified, type_at}
 use Rattle.cr_check_operands.specs.Values.{Seen}
 use Rattle.cr_check_expressions.specs.declared.known.Declared.{Declared}
@@ -18,29 +17,25 @@ use Rattle.cr_check_expressions.specs.Ruled as rules
 use Rattle.cr_check_declarators.specs.declared.words.Class.{Class}
 use Rattle.cr_check_declarators.specs.declared.words.Specified.{Specified}
 use Rattle.cr_check_declarators.specs.declared.declarator.Declarator.{Declarator}
-use Rattle.cr_check_declarations.specs.declared.tree.Tree.{Tree}
 use Rattle.cr_check_declarations.specs.Before.{Before, kind_in, declarator_in}
 use Rattle.cr_check_declarations.specs.Declarators.{declarator_by}
 use Rattle.cr_check_declarations.specs.Named.{is_typedef, is_register, class_of, value_by, ordinary_by, ordinary_of, names_ordinary, declares_name, declared_by, declaration_of, specifiers_in}
 use Rattle.cr_check_surroundings.specs.Named.{used_by, used_name, visible_if}
 use Rattle.cr_check_surroundings.specs.Raised.{initialises, raised_by, raised_if, raised, raised_of}
-use Rattle.cr_check_unit.specs.declared.typing.Typing.{Typing}
 use Rattle.cr_check_unit.specs.Typing.{cut, entry_at, before_in, source_in, declared_in, IsRuled}
 use Rattle.cr_typed.specs.declared.typed.Typed.{Typed}
-use Rattle.cr_typed_unit.specs.Typed.{IsTypedBy}
-use Rattle.cr_meaning_types.specs.Known.Shaped.{fits, IsPart, IsShaped}
-use Rattle.cr_meaning_types.specs.Known.Sighted.{is_use, IsSeen, AreSighted}
+use Rattle.cr_meaning_types.specs.Known.Shaped.{fits, IsPart}
+use Rattle.cr_meaning_types.specs.Known.Sighted.{is_use, IsSeen}
 use Rattle.cr_meaning_types.proofs.KnownLemmas.Naming.{ruled, specified_early, declarator_early}
+use Rattle.cr_meaning_types.proofs.KnownLemmas.Sizes.{declarator_names}
 use Rattle.cr_meaning_declarations.specs.Declared.Files.{IsUnitOfFile}
-use Rattle.cr_meaning_composites.proofs.ChainedLemmas.Known.{is_typing, holds, there, declarator_names}
+use Rattle.cr_meaning_composites.proofs.ChainedLemmas.Known.{is_typing, holds, there, declares_by_kind}
 use Rattle.cr_meaning_references.proofs.ToldLemmas.Names.{initial}
+use Rattle.cr_meaning_references.proofs.TreesLemmas.Shaped.{shaped}
+use Rattle.cr_meaning_references.proofs.TreesLemmas.Sighted.{sighted}
 use Rattle.cr_meaning_composites.specs.Objects.Laws.{DeclaresObject}
-use Rattle.cr_meaning_composites.proofs.ObjectsLemmas.Alone.{declares_by_kind}
-use Rattle.cr_meaning_references.specs.Kept.Laws
-use Rattle.cr_meaning_references.specs.Kept.Laws.{SeesObject}
-
-some_same : {A : Type 0} (x y : A) → Some x ≡ Some y → x ≡ y
-some_same x y e = cc
+use Rattle.cr_meaning_composites.specs.Kept.Laws
+use Rattle.cr_meaning_composites.specs.Kept.Laws.{SeesObject}
 
 abbrev IsObject : Declared → Type 0
 IsObject d = (row : ℕ) × ((register : Bool) × (d ≡ Object row register))
@@ -76,21 +71,8 @@ by_declaration : (b : Bool) (nodes : List Node) (one two : ℕ → Specified) (o
 by_declaration true nodes one two own its row other o f same h = by_specifiers nodes one two own its row other o f same h
 by_declaration false nodes one two own its row other o f same h = let never : Unclear ≡ Object h.0 h.1.0 = h.1.1 in absurd cc
 
-module _ (file : List ℕ) (t : Typed) (it : IsUnitOfFile file t) (shaped : IsShaped it.checked.by.tree) where
-  abbrev made_by : IsTypedBy file it.unit it.names it.checked.checked t
-  made_by = it.checked.by
-
-  abbrev typing : Typing
-  typing = it.checked.checked.whole.typing
-
-  abbrev shapes : List Shape
-  shapes = it.checked.checked.table
-
-  abbrev tree : Tree
-  tree = made_by.tree
-
-  abbrev texts : List (List ℕ)
-  texts = it.checked.checked.texts
+module _ (file : List ℕ) (t : Typed) (it : IsUnitOfFile file t) where
+  open it use {made_by, typing, shapes, tree, texts}
 
   abbrev early : ℕ → Before
   early i = before_in shapes (cut i typing)
@@ -100,13 +82,13 @@ module _ (file : List ℕ) (t : Typed) (it : IsUnitOfFile file t) (shaped : IsSh
   inside a w m at is first object = (made.0, (made.1.0, own_w.declared ∙ made.1.1))
     where
       part : IsPart tree a m 0 w
-      part = shaped.parts a m at 0 w first
+      part = (shaped file t it).parts a m at 0 w first
 
       own_a : IsRuled tree texts shapes (cut a typing) (entry_at typing a) a m
-      own_a = ruled tree texts shapes typing (is_typing file t it shaped) (holds file t it shaped) a m at
+      own_a = ruled tree texts shapes typing (is_typing file t it) (holds file t it) a m at
 
       own_w : IsRuled tree texts shapes (cut w typing) (entry_at typing w) w part.own
-      own_w = ruled tree texts shapes typing (is_typing file t it shaped) (holds file t it shaped) w part.own part.at
+      own_w = ruled tree texts shapes typing (is_typing file t it) (holds file t it) w part.own part.at
 
       names_w : declares_name part.own.kind ≡ true
       names_w = declarator_names part.own.kind (ap (λ k. fits k 0 part.own.kind) (sym is) ∙ part.fits)
@@ -114,19 +96,19 @@ module _ (file : List ℕ) (t : Typed) (it : IsUnitOfFile file t) (shaped : IsSh
       one_declarator : (entry_at typing a).own.declarator ≡ (entry_at typing w).own.declarator
       one_declarator =
           own_a.declarator ∙ ap (λ k. declarator_by k (spelling_of tree.file.now tree.tokens.now) tree.nodes.now (early a) a m) is ∙ ap (declarator_in (early a).declarator) first
-          ∙ declarator_early tree texts shapes typing (is_typing file t it shaped) (holds file t it shaped) a m at w part.below
+          ∙ declarator_early tree texts shapes typing (is_typing file t it) (holds file t it) a m at w part.below
 
       declaration : declaration_of tree.nodes.now tree.above.now w ≡ declaration_of tree.nodes.now tree.above.now a
-      declaration = shaped.initialised a w m at is first
+      declaration = (shaped file t it).initialised a w m at is first
 
       -- both read what the same specifiers say
       read : (d : Option ℕ) → declaration_of tree.nodes.now tree.above.now w ≡ d → (s : ℕ) → specifiers_in tree.nodes.now d ≡ Some s → (early a).specified s ≡ (early w).specified s
       read None e s f = absurd (cc f)
       read (Some d) e s f =
-          let low = shaped.ordered w d s part.own part.at names_w e f in
-          let low_a = shaped.ordered a d s m at (ap declares_name is) (sym declaration ∙ e) f in
-          specified_early tree texts shapes typing (is_typing file t it shaped) (holds file t it shaped) a m at s low_a
-          ∙ sym (specified_early tree texts shapes typing (is_typing file t it shaped) (holds file t it shaped) w part.own part.at s low)
+          let low = (shaped file t it).ordered w d s part.own part.at names_w e f in
+          let low_a = (shaped file t it).ordered a d s m at (ap declares_name is) (sym declaration ∙ e) f in
+          specified_early tree texts shapes typing (is_typing file t it) (holds file t it) a m at s low_a
+          ∙ sym (specified_early tree texts shapes typing (is_typing file t it) (holds file t it) w part.own part.at s low)
 
       its : IsObject (ordinary_of tree.nodes.now (early a).specified (entry_at typing a).own.declarator (entry_at typing a).own.named (declaration_of tree.nodes.now tree.above.now a))
       its =
@@ -163,15 +145,15 @@ module _ (file : List ℕ) (t : Typed) (it : IsUnitOfFile file t) (shaped : IsSh
       by None h = h
       by (Some a) h = at_above a (slice_get it.unit.nodes a) refl h
 
-  module _ (sighted : AreSighted it.checked.by.tree) (i : ℕ) (n : Node) (at : slice_get t.nodes i ≡ Some n) (is : n.kind ≡ kind.Identifier) (lvalue : (facts_at shapes typing.facts i).lvalue ≡ true) where
+  module _ (i : ℕ) (n : Node) (at : slice_get t.nodes i ≡ Some n) (is : n.kind ≡ kind.Identifier) (lvalue : (facts_at shapes typing.facts i).lvalue ≡ true) where
     here : slice_get tree.nodes.now i ≡ Some n
-    here = there file t it shaped i n at
+    here = there file t it i n at
 
     sees : IsSeen tree i n.kind
-    sees = sighted.names i n here (ap is_use is)
+    sees = (sighted file t it).names i n here (ap is_use is)
 
     own : IsRuled tree texts shapes (cut i typing) (entry_at typing i) i n
-    own = ruled tree texts shapes typing (is_typing file t it shaped) (holds file t it shaped) i n here
+    own = ruled tree texts shapes typing (is_typing file t it) (holds file t it) i n here
 
     fact : facts_at shapes typing.facts i ≡ named_by (declared_in shapes (cut i typing) (Some sees.declared))
     fact =
@@ -205,7 +187,7 @@ module _ (file : List ℕ) (t : Typed) (it : IsUnitOfFile file t) (shaped : IsSh
           visible = v;
           declarator = w;
           declares = e;
-          object = of_raised w i (subst (DeclaresObject typing) (sym (some_same (raised it.unit.nodes it.checked.checked.surroundings.above w i) sees.declared f)) declares);
+          object = of_raised w i (subst (DeclaresObject typing) (sym (same_Some (raised it.unit.nodes it.checked.checked.surroundings.above w i) sees.declared f)) declares);
         }
 
         by : (o : Option ℕ) → slice_index_or it.checked.checked.surroundings.bindings.visible n.first None ≡ o
@@ -214,4 +196,4 @@ module _ (file : List ℕ) (t : Typed) (it : IsUnitOfFile file t) (shaped : IsSh
         by (Some token) e f = of_token token e (slice_index_or it.checked.checked.surroundings.bindings.declarers token None) refl f
 
 pub see : Laws.PlacesSeeObjects
-see file t it shaped sighted i n at is lvalue = sees_object file t it shaped sighted i n at is lvalue
+see file t it i n at is lvalue = sees_object file t it i n at is lvalue

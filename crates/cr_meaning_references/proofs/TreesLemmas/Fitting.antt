@@ -11,9 +11,10 @@ use Rattle.cr_check_expressions.specs.Forms.{form_of}
 use Rattle.cr_check_declarations.specs.Named.{is_declarator, is_initialised, declares_name}
 use Rattle.cr_check_declarations.specs.Faults.{is_specifier}
 use Rattle.cr_meaning_types.specs.Known.Shaped.{is_single, is_member_declaration, is_parameter_kind, is_parameter_list, is_type_name, fits, is_filled}
+use Rattle.cr_meaning_types.proofs.KnownLemmas.Reading.{row}
 use Rattle.cr_meaning_typing.specs.Typed.Typing.{is_expression}
-use Rattle.cr_meaning_files.proofs.Grammar.{part_in, Stands, row}
-use Rattle.cr_meaning_files.proofs.Tables.{is_jump, expressions_stand}
+use Rattle.cr_meaning_references.proofs.TreesLemmas.Grammar.{part_in, Stands}
+use Rattle.cr_meaning_references.proofs.TreesLemmas.Expressions.{is_jump, expressions_stand}
 
 specifiers : (k : Kind) → (not (stands_for part.Specifiers k) || is_specifier k) ≡ true
 unfolding rule_of

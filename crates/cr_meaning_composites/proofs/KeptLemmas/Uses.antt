@@ -2,8 +2,8 @@
 use Rattle.std.proofs.Common.{◌≡◌, ℕ, zero, suc, ◌<◌, ◌==◌, Bool, true, false, ◌&&◌, ◌||◌, List, [], ◌∷◌, ◌++◌, Option, None, Some, length, slice_get, slice_index_or, nat_lt, ◌⊎◌, inl, inr, refl, sym, subst, ap, ◌∙◌, arith, if◌then◌else◌}
 use Rattle.std.specs.List.{list_any}
 use Rattle.std.specs.Option.{is_some}
-use Rattle.std.proofs.lemmas.Bool.{cases_lt, false≢true, eq-eqb, eqb-true, or_left, or_right, and_parts, ltb-true, lt-ltb}
-use Rattle.std.proofs.lemmas.Option.{slice_get_within}
+use Rattle.std.proofs.lemmas.Bool.{cases_lt, false≢true, eq-eqb, eqb-true, and_parts, ltb-true, lt-ltb}
+use Rattle.std.proofs.lemmas.Option.{slice_get_within, same_Some}
 use Rattle.cr_scopes_events.specs.declared.event.Role.{Role}
 use Rattle.cr_scopes_events.specs.declared.event.Role.TheVariants as role
 use Rattle.cr_scopes_events.specs.declared.event.Event.{Event}
@@ -17,9 +17,10 @@ use Rattle.cr_scopes.specs.declared.told.Told.{Told}
 use Rattle.cr_scopes.specs.Looking.{or_else, stands_in, is_mention, begun, noted_if, look}
 use Rattle.cr_scopes.specs.Resolved.{space_of, space_number, declares_by, told_if, told_of, told, begins, count_of, number_of, with_token, is_number, entity_of, past_of, told_below, AreResolved}
 use Rattle.cr_scopes_bindings.specs.Entities.{entity_within, entity_at, is_declared_by, declares, declared_entity}
-use Rattle.cr_scopes_visibility.proofs.AloneLemmas.First.{one_number, number_is, number_same, some_same, told_there, within_is}
+use Rattle.cr_scopes_visibility.proofs.AloneLemmas.First.{one_number, number_is, number_same, told_there, within_is}
 use Rattle.cr_scopes_linkage.specs.Shared.Sorts.{is_tag, Never}
 use Rattle.cr_scopes_linkage.proofs.SharedLemmas.Looked.{Once, never_once}
+use Rattle.cr_scopes_linkage.proofs.FunctionsLemmas.Shared.{any_there as any_at}
 use Rattle.cr_check_definitions.specs.Defined.{is_used}
 
 -- all that is told but a use
@@ -75,9 +76,6 @@ module _ (name : ℕ → ℕ) where
   begun_tag past t role.Alone h = inl (refl, refl)
   begun_tag past t role.Mentioned h = inl (refl, refl)
   begun_tag past t r h = absurd (false≢true h)
-
-  AllTags : List Event → Option Found → Type 0
-  AllTags past o = (f : Found) → o ≡ Some f → Once is_tag f.first past
 
   record AreTags (past : List Event) (l : Look) : Type 0 where
     here : (f : Found) → l.here ≡ Some f → Once is_tag f.first past
@@ -155,11 +153,6 @@ any_or_last d m (x ∷ xs) h = by (x == d) h (λ g. any_or_last d m xs g)
     by : (b : Bool) → (b || list_any (λ y. y == d) (xs ++ m ∷ [])) ≡ true → (list_any (λ y. y == d) (xs ++ m ∷ []) ≡ true → (list_any (λ y. y == d) xs ≡ true) ⊎ (m ≡ d)) → ((b || list_any (λ y. y == d) xs) ≡ true) ⊎ (m ≡ d)
     by true g rest = inl refl
     by false g rest = rest g
-
-any_at : {A : Type 0} (test : A → Bool) (xs : List A) (k : ℕ) (x : A) → slice_get xs k ≡ Some x → test x ≡ true → list_any test xs ≡ true
-any_at test [] k x e h = absurd cc
-any_at test (y ∷ ys) zero x e h = let same : y ≡ x = cc in or_left (test y) (list_any test ys) (ap test same ∙ h)
-any_at test (y ∷ ys) (suc k) x e h = or_right (test y) (list_any test ys) (any_at test ys k x e h)
 
 module _ (at : ℕ → Option Told) (k : ℕ) where
   abbrev so_far : ℕ → Entity
@@ -300,7 +293,7 @@ module _ (name : ℕ → ℕ) (events : List Event) (tokens : ℕ) (names : Name
       by true q e =
           let f = any_found (is_declared_by token) names.entities q in
           let few : f.0 < count_of at tokens = (let c = resolved.names.count in let low = slice_get_within names.entities f.0 f.1.0 f.1.1.0 in omega (arith, c, low)) in
-          let one : f.1.0 ≡ entity_of at tokens f.0 = some_same f.1.0 (entity_of at tokens f.0) (sym f.1.1.0 ∙ resolved.names.entities f.0 few) in
+          let one : f.1.0 ≡ entity_of at tokens f.0 = same_Some f.1.0 (entity_of at tokens f.0) (sym f.1.1.0 ∙ resolved.names.entities f.0 few) in
           let x = is_listed at f.0 token tokens (ap (is_declared_by token) (sym one) ∙ f.1.1.1) in
           (x.own, (told_there name events tokens token x.own x.is, x.declares_it))
 
@@ -335,7 +328,7 @@ module _ (name : ℕ → ℕ) (events : List Event) (tokens : ℕ) (names : Name
       spaces : (t : ℕ) (x : Told) → at t ≡ Some x → is_number (number_of at (at t)) k ≡ true → x.space ≡ 0
       spaces t x here same =
           let it = number_is at (at t) k (number_same (number_of at (at t)) k same) in
-          let one : it.0 ≡ x = some_same it.0 x (sym it.1.0 ∙ here) in
+          let one : it.0 ≡ x = same_Some it.0 x (sym it.1.0 ∙ here) in
           let its : it.0.first ≡ first = one_number at it.0.first first it.1.1.0 begins_there (it.1.1.1 ∙ sym count_is) in
           let x_first : x.first ≡ first = ap (λ (y : Told). y.first) (sym one) ∙ its in
           elim (plain_or_tag name t whole x (told_there name events tokens t x here)) [

@@ -8,14 +8,12 @@ use Rattle.cr_typed.specs.declared.typed.Typed.{Typed}
 use Rattle.cr_typed.specs.declared.typed.Duration.TheVariants as duration
 use Rattle.cr_meaning_operations.specs.Operations.{entity_of}
 use Rattle.cr_meaning_typing.specs.Judged.Judged.{seen_in}
-use Rattle.cr_meaning_types.specs.Known.Shaped.{IsShaped}
-use Rattle.cr_meaning_types.specs.Known.Sighted.{AreSighted}
 use Rattle.cr_meaning_declarations.specs.Declared.Files.{IsUnitOfFile}
 use Rattle.cr_meaning_composites.specs.Objects.Laws.{DeclaresObject}
 
 -- a name of an entity that a declaration declares as an object names one that the program has (6.9p3, p5, K40)
 abbrev pub NamedObjectsAreKept : Type 0
-NamedObjectsAreKept = (file : List ℕ) (t : Typed) (it : IsUnitOfFile file t) → IsShaped it.checked.by.tree → AreSighted it.checked.by.tree
+NamedObjectsAreKept = (file : List ℕ) (t : Typed) (it : IsUnitOfFile file t)
     → (i token k declaration q : ℕ) (n m : Node) → slice_get t.nodes i ≡ Some n → n.kind ≡ kind.Identifier → entity_at it.names n.first ≡ Some k
     → IsDeclarer t.nodes token declaration q m → declared_entity it.names token ≡ Some k → DeclaresObject it.checked.checked.whole.typing q
     → slice_index_or t.durations (entity_of t i) duration.NoObject ≡ duration.NoObject → ⊥
@@ -30,5 +28,5 @@ pub record SeesObject (file : List ℕ) (t : Typed) (it : IsUnitOfFile file t) (
 
 -- a name that is a place sees an object (6.5.1p2)
 abbrev pub PlacesSeeObjects : Type 0
-PlacesSeeObjects = (file : List ℕ) (t : Typed) (it : IsUnitOfFile file t) → IsShaped it.checked.by.tree → AreSighted it.checked.by.tree
+PlacesSeeObjects = (file : List ℕ) (t : Typed) (it : IsUnitOfFile file t)
     → (i : ℕ) (n : Node) → slice_get t.nodes i ≡ Some n → n.kind ≡ kind.Identifier → (seen_in it.checked.checked i).lvalue ≡ true → SeesObject file t it n.first

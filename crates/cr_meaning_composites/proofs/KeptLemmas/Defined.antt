@@ -2,31 +2,27 @@
 use Rattle.std.proofs.Common.{◌≡◌, ℕ, zero, suc, ◌+◌, ◌<◌, ◌==◌, Bool, true, false, not, ◌&&◌, ◌||◌, List, [], ◌∷◌, None, Some, length, slice_get, slice_index_or, inl, inr, refl, sym, subst, ap, ◌∙◌, arith, if◌then◌else◌}
 use Rattle.std.specs.List.{list_all, list_any}
 use Rattle.std.proofs.lemmas.Bool.{false≢true, eq-eqb, lt-ltb, or_left, or_right}
-use Rattle.std.proofs.lemmas.Option.{slice_get_within}
+use Rattle.std.proofs.lemmas.Option.{slice_get_within, same_Some}
 use Rattle.cr_syntax.specs.declared.node.Kind.{Kind}
 use Rattle.cr_syntax.specs.declared.node.Kind.TheVariants as kind
 use Rattle.cr_syntax.specs.declared.node.Node.{Node}
-use Rattle.cr_syntax_order.specs.Listed.{AreListed}
-use Rattle.cr_syntax_nodes.proofs.Numbers.{some_at}
 use Rattle.cr_scopes_events.specs.declared.event.Event.{Event}
 use Rattle.cr_scopes_events.specs.declared.event.Role.{Role}
 use Rattle.cr_scopes_events.specs.declared.naming.Storage.{Storage as Word}
 use Rattle.cr_scopes_events.specs.declared.naming.Storage.TheVariants.{TypedefWord, ExternWord, NoWord}
 use Rattle.cr_scopes_events.specs.declared.declarator.Derivation.{Derivation}
 use Rattle.cr_scopes_events.specs.declared.declarator.Derivation.TheVariants.{Nothing, Function as Derived, Other}
-use Rattle.cr_scopes_events.specs.Values.{before}
-use Rattle.cr_scopes_events.specs.Declarators.{nowhere, declared_if, declarator_of}
+use Rattle.cr_scopes_events.specs.Declarators.{declarator_of}
 use Rattle.cr_scopes_events.specs.Scripts as scripts
 use Rattle.cr_scopes_events.specs.Scripts.{role_by}
 use Rattle.cr_scopes_events.specs.Events.{events_of}
-use Rattle.cr_scopes_events.proofs.Descents.{declarator_ruled}
 use Rattle.cr_scopes.specs.declared.told.Told.{Told}
 use Rattle.cr_scopes.specs.Resolved.{told, begins, count_of, past_of, told_below}
 use Rattle.cr_scopes.specs.Spelled.{name_of as spelled_name}
 use Rattle.cr_scopes.specs.Units.{unit_events}
 use Rattle.cr_scopes_visibility.proofs.AloneLemmas.Telling.{AreRight, all_right}
 use Rattle.cr_scopes_bindings.specs.Last.{last_with}
-use Rattle.cr_scopes_bindings.specs.Nodes.{named_by, named_if, name_at}
+use Rattle.cr_scopes_bindings.specs.Nodes.{named_by, named_if}
 use Rattle.cr_scopes_bindings.specs.Entities as bound
 use Rattle.cr_scopes_linkage.specs.Shared.Sorts.{is_value, is_tag, Never, IsOfOneSort}
 use Rattle.cr_scopes_linkage.specs.Shared.Origins.{IsDeclarer}
@@ -40,28 +36,19 @@ use Rattle.cr_check_definitions.specs.Defined.{is_used, is_open, is_undefined}
 use Rattle.cr_check_definitions.specs.Mains.{has_main}
 use Rattle.cr_check.specs.Columns.{known_in}
 use Rattle.cr_typed.specs.declared.typed.Typed.{Typed}
-use Rattle.cr_typed_columns.specs.declared.checked.CheckedColumns.{CheckedColumns}
 use Rattle.cr_typed_columns.specs.Reading.{parsed_of, entry_of}
 use Rattle.cr_typed_columns.specs.Entities as entities
 use Rattle.cr_typed_columns.specs.Names as names
-use Rattle.cr_typed_unit.specs.Typed.{IsTypedBy}
-use Rattle.cr_meaning_declarations.specs.Units.Owned.{AreOfUnit}
 use Rattle.cr_meaning_declarations.proofs.NamesLemmas.Leaves as leaves
-use Rattle.cr_meaning_declarations.proofs.NamesLemmas.Leaves.{is_named, named_once}
-use Rattle.cr_meaning_declarations.proofs.NamesLemmas.Parents.{whole_is}
 use Rattle.cr_meaning_declarations.specs.Declared.Files.{IsUnitOfFile}
-use Rattle.cr_meaning_declarations.proofs.DeclaredLemmas.Nodes.{of_unit}
 use Rattle.cr_meaning_declarations.proofs.DeclaredLemmas.Bodies.{listed_at}
-use Rattle.cr_meaning_declarations.proofs.LinkedLemmas.Owned.{HasOwn, own_there, alone as in_no_other}
-use Rattle.cr_meaning_declarations.proofs.LinkedLemmas.Order.{there as node_there, order_of}
+use Rattle.cr_meaning_declarations.proofs.LinkedLemmas.Owned.{HasOwn, own_there}
 use Rattle.cr_meaning_declarations.proofs.LinkedLemmas.Sorts.{one_sort}
+use Rattle.cr_meaning_declarations.proofs.DeclaredLemmas.Files.{has_unit}
 use Rattle.cr_meaning_references.proofs.ToldLemmas.Orderly.{apart}
 use Rattle.cr_meaning_composites.proofs.ObjectsLemmas.Declaring.{IsLast, never_told, last_there, entity_of_declared, token_low}
-use Rattle.cr_meaning_composites.proofs.ObjectsLemmas.Statics.{tagged_same, enumerator_nameless}
-use Rattle.cr_meaning_references.proofs.KeptLemmas.Uses.{is_telling, IsUsed, first_of_site, declared_told, is_used_there}
-
-some_same : {A : Type 0} (x y : A) → Some x ≡ Some y → x ≡ y
-some_same x y e = cc
+use Rattle.cr_meaning_composites.proofs.ObjectsLemmas.Statics.{tagged_same, named_token, token_few}
+use Rattle.cr_meaning_composites.proofs.KeptLemmas.Uses.{is_telling, IsUsed, first_of_site, declared_told, is_used_there}
 
 -- ---- lists
 
@@ -117,22 +104,13 @@ used_same kind.Call h = refl
 used_same kind.TypedefName h = refl
 used_same k h = absurd (false≢true h)
 
-no_goto : (k : Kind) → names.is_mention (Some k) ≡ true → names.is_goto (Some k) ≡ false
+pub no_goto : (k : Kind) → names.is_mention (Some k) ≡ true → names.is_goto (Some k) ≡ false
 no_goto kind.Goto h = absurd (false≢true h)
 no_goto k h = refl
 
 module _ (file : List ℕ) (t : Typed) (it : IsUnitOfFile file t) where
-  unit : AreOfUnit t
-  unit = of_unit file t it
-
-  order : AreListed t.nodes 0 t.items (length t.nodes)
-  order = order_of file t it
-
-  abbrev made_by : IsTypedBy file it.unit it.names it.checked.checked t
-  made_by = it.checked.by
-
-  abbrev columns : CheckedColumns
-  columns = made_by.columns
+  open it use {made_by, columns}
+  open has_unit file t it use {unit, order, nodes_are as same_nodes, count}
 
   abbrev tokens : ℕ
   tokens = length it.unit.tokens.list.items
@@ -149,12 +127,6 @@ module _ (file : List ℕ) (t : Typed) (it : IsUnitOfFile file t) where
   abbrev known : Known
   known = known_in file it.unit it.checked.checked
 
-  same_nodes : it.unit.nodes ≡ t.nodes
-  same_nodes = sym made_by.elaborated.nodes_are
-
-  count : length t.nodes ≡ length it.unit.nodes
-  count = ap length made_by.elaborated.nodes_are
-
   moved : (l : ℕ) (n : Node) → slice_get it.unit.nodes l ≡ Some n → slice_get t.nodes l ≡ Some n
   moved l n at = ap (λ ns. slice_get ns l) (sym same_nodes) ∙ at
 
@@ -164,42 +136,6 @@ module _ (file : List ℕ) (t : Typed) (it : IsUnitOfFile file t) where
   -- ---- the whole declarator of a token
 
   module _ (token i q : ℕ) (m : Node) (d : IsDeclarer t.nodes token i q m) where
-    name_key : (w : ℕ) (o : Node) → slice_get t.nodes w ≡ Some o → (declarator_of t.nodes w).name ≡ Some token → name_at t.nodes w ≡ Some token
-    name_key w o at named = ap (λ x. named_if x (declarator_of t.nodes w).name) at ∙ by o.kind refl
-      where
-        by : (k : Kind) → o.kind ≡ k → named_by k o.first (declarator_of t.nodes w).name ≡ Some token
-        by kind.Enumerator e =
-            absurd (enumerator_nameless o.kind (before nowhere w (declarator_of t.nodes)) w o token e
-            (sym (ap (λ p. (declared_if p (before nowhere w (declarator_of t.nodes)) w).name) at) ∙ sym (ap (λ p. p.name) (declarator_ruled t.nodes w)) ∙ named))
-        by k e = named
-
-    -- another node of the name is no enumerator, since its token is that of an identifier
-    key_name : (w : ℕ) (o : Node) → slice_get t.nodes w ≡ Some o → name_at t.nodes w ≡ Some token → (declarator_of t.nodes w).name ≡ Some token
-    key_name w o at e = by o.kind refl (sym (ap (λ p. named_if p (declarator_of t.nodes w).name) at) ∙ e)
-      where
-        by : (k : Kind) → o.kind ≡ k → named_by k o.first (declarator_of t.nodes w).name ≡ Some token → (declarator_of t.nodes w).name ≡ Some token
-        by kind.Enumerator f g =
-            let x = own_there t unit order token q d.name in
-            let first : o.first ≡ token = cc in
-            let xf = x.first in
-            let inner = (unit.within w o at).0 in
-            let same : x.own ≡ w = named_once t unit order x.own w x.node o token x.at x.is x.first at (ap is_named f) (omega (arith, first)) (omega (arith, first)) (omega (arith, first, inner)) in
-            let one : Some x.node ≡ Some o = sym x.at ∙ ap (slice_get t.nodes) same ∙ at in
-            let node : x.node ≡ o = cc in
-            let kinds : kind.NameDeclarator ≡ kind.Enumerator = sym x.is ∙ ap (λ (z : Node). z.kind) node ∙ f in
-            absurd cc
-        by k f g = g
-
-    pub declarer_is : token < tokens → slice_index_or it.checked.checked.surroundings.bindings.declarers token None ≡ Some q
-    declarer_is low =
-        let o = node_there t unit order token i q m d in
-        let l = last_there (name_at t.nodes) (length t.nodes) token q (slice_get_within t.nodes q o.0 o.1) (name_key q o.0 o.1 d.name) in
-        let w = some_at t.nodes l.last l.low in
-        let x = own_there t unit order token q d.name in
-        let other = key_name l.last w.0 w.1 l.has in
-        made_by.is.surroundings.bindings.declarers.each token low ∙ ap (λ ns. last_with (name_at ns) (length ns) token) same_nodes
-        ∙ l.is ∙ ap Some (sym (whole_is t unit order x.own x.node x.at x.is q l.last (d.name ∙ ap Some (sym x.first)) (other ∙ ap Some (sym x.first)) l.behind (in_no_other t unit order token i q m d)))
-
     -- no event tells it as a tag
     pub untagged : Never is_tag token whole
     untagged = never_told is_tag (Telling it.unit.nodes) token told_so (events_of it.unit.tokens.list.items it.unit.nodes it.unit.items) (all_told it.unit.tokens.list.items it.unit.nodes it.unit.items)
@@ -246,20 +182,6 @@ module _ (file : List ℕ) (t : Typed) (it : IsUnitOfFile file t) where
 
   -- ---- nodes of names
 
-  pub named_token : (node : ℕ) (n : Node) → slice_get t.nodes node ≡ Some n → n.kind ≡ kind.NameDeclarator → entities.named_token it.unit.nodes node ≡ Some n.first
-  named_token node n at is =
-      ap (λ ns. entities.named_token ns node) same_nodes
-      ∙ ap (λ o. if entities.is_name (scripts.kind_if o) then scripts.first_if o else None) at
-      ∙ ap (λ k. if entities.is_name (Some k) then Some n.first else None) is
-
-  token_few : (node : ℕ) (n : Node) → slice_get t.nodes node ≡ Some n → n.first < tokens
-  token_few node n at =
-      let w = unit.within node n at in
-      let low = w.0 in
-      let high = w.1 in
-      let tokens_are : length t.tokens ≡ tokens = ap length made_by.elaborated.tokens_are in
-      omega (arith, low, high, tokens_are)
-
   pub whole_by : (node token : ℕ) → entities.named_token it.unit.nodes node ≡ Some token → entities.whole_of it.unit.nodes columns node ≡ slice_index_or it.checked.checked.surroundings.bindings.declarers token None
   whole_by node token e = ap (entry_of columns.declarers.now None) e ∙ ap (λ column. slice_index_or column token None) made_by.are.declarers
 
@@ -280,7 +202,7 @@ module _ (file : List ℕ) (t : Typed) (it : IsUnitOfFile file t) where
   module _ (token k declaration q : ℕ) (m : Node) (d : IsDeclarer t.nodes token declaration q m) (mine : bound.declared_entity it.names token ≡ Some k) (i : ℕ) (n : Node) (at : slice_get t.nodes i ≡ Some n)
       (using : is_using n.kind ≡ true) (stands : bound.entity_at it.names n.first ≡ Some k) where
     low : n.first < tokens
-    low = token_few i n at
+    low = token_few file t it i n at
 
     token_there : token < tokens
     token_there = token_low spelled events tokens it.names it.known token k (entity_of_declared it.names token k mine)
@@ -295,7 +217,7 @@ module _ (file : List ℕ) (t : Typed) (it : IsUnitOfFile file t) where
     first_plain : Never is_tag own_first.0.first whole
     first_plain =
         let x = declared_told spelled events tokens it.names it.known k token mine in
-        let same : x.0 ≡ own_first.0 = some_same x.0 own_first.0 (sym x.1.0 ∙ own_first.1.0) in
+        let same : x.0 ≡ own_first.0 = same_Some x.0 own_first.0 (sym x.1.0 ∙ own_first.1.0) in
         subst (λ (y : Told). Never is_tag y.first whole) same (by x.0.first (one_sort file t it x.0.first) (ways spelled token whole right x.0 x.1.0 x.1.1))
       where
         by : (f : ℕ) → IsOfOneSort f whole → Ways spelled token f whole → Never is_tag f whole
@@ -343,7 +265,7 @@ module _ (file : List ℕ) (t : Typed) (it : IsUnitOfFile file t) where
     own_node = own_there t unit order first q d.name
 
     first_named : entities.named_token it.unit.nodes own_node.own ≡ Some first
-    first_named = named_token own_node.own own_node.node own_node.at own_node.is ∙ ap Some own_node.first
+    first_named = named_token file t it own_node.own own_node.node own_node.at own_node.is ∙ ap Some own_node.first
 
     last : IsLast (entities.named_token it.unit.nodes) (length it.unit.nodes) first own_node.own
     last =

@@ -10,32 +10,26 @@ use Rattle.cr_syntax_order.specs.Listed.{AreListed, no_node, one_more}
 use Rattle.cr_syntax_nodes.proofs.Order.{own_before}
 use Rattle.cr_check_enclosing.specs.Above.{AreAbove}
 use Rattle.cr_check_enclosing.specs.Around.{outermost, inside, AreAround}
-use Rattle.cr_check_declarations.specs.declared.tree.Tree.{Tree}
 use Rattle.cr_check_declarations.specs.Before as before
 use Rattle.cr_check_declarations.specs.Named.{is_initialised, is_declaration, declares_name, declaration_at, declaration_of, above_in, specifiers_in}
 use Rattle.cr_check_declarations.specs.Faults.{is_specifier}
-use Rattle.cr_check.specs.declared.checked.Checked.{Checked}
 use Rattle.cr_typed.specs.declared.typed.Typed.{Typed}
-use Rattle.cr_typed_unit.specs.Typed.{IsAssembledBy}
 use Rattle.cr_meaning_operations.specs.Operations.{kind_if, kind_at, parts_if, parts_at, part_at}
 use Rattle.cr_meaning_typing.specs.Typed.Whole as readable
 use Rattle.cr_meaning_declarations.specs.Units.Owned.{AreOfUnit}
 use Rattle.cr_meaning_declarations.proofs.NamesLemmas.Parents.{IsPartOf, above_some}
 use Rattle.cr_meaning_declarations.specs.Declared.Files.{IsUnitOfFile, IsAssembledFile, assembled}
 use Rattle.cr_meaning_declarations.proofs.DeclaredLemmas.Nodes.{unit_of}
+use Rattle.cr_meaning_declarations.proofs.LinkedLemmas.Order.{forth as listed_up}
 use Rattle.cr_meaning_types.specs.Known.Shaped.{fits, is_filled, IsPart, IsThere, IsShaped}
 use Rattle.cr_meaning_types.proofs.KnownLemmas.Naming.{declaration_is}
 use Rattle.cr_meaning_types.proofs.KnownLemmas.Declaring.{has_specifiers}
-use Rattle.cr_meaning_files.proofs.Grammar.{part_in, Stands}
-use Rattle.cr_meaning_files.proofs.Tree.{HasPart, has_part, as_part, at_most, needed, operands_read}
-use Rattle.cr_meaning_files.proofs.Above.{column_above, column_around}
-use Rattle.cr_meaning_files.proofs.Fitting.{fitting, filling, apart, inner_apart, initialised_counts}
+use Rattle.cr_meaning_references.proofs.TreesLemmas.Grammar.{part_in, Stands}
+use Rattle.cr_meaning_references.proofs.TreesLemmas.Tree.{HasPart, has_part, as_part, at_most, needed, operands_read}
+use Rattle.cr_meaning_references.proofs.TreesLemmas.Above.{column_above, column_around}
+use Rattle.cr_meaning_references.proofs.TreesLemmas.Fitting.{fitting, filling, apart, inner_apart, initialised_counts}
 
 -- ---- nodes that are listed in order
-
-listed_up : {ns : List Node} {from end : ℕ} {ps : List ℕ} → AreListed ns from ps end → from ≤ end
-listed_up no_node = omega arith
-listed_up (one_more at below rest) = let one = listed_up below in let other = listed_up rest in omega (arith, one, other)
 
 -- a part of a row has no lesser number than the row begins with
 row_low : {ns : List Node} {from end : ℕ} {ps : List ℕ} → AreListed ns from ps end → (k p : ℕ) → slice_get ps k ≡ Some p → from ≤ p
@@ -65,14 +59,7 @@ behind_inner (one_more {p = x} at below rest) s f k p j q m e there g = let same
 
 -- before it is tested whether the unit fits
 module _ (file : List ℕ) (t : Typed) (it : IsAssembledFile file t) where
-  abbrev checked : Checked
-  checked = it.checked.checked
-
-  abbrev made_by : IsAssembledBy file it.unit it.names checked t
-  made_by = it.checked.by
-
-  abbrev u : Tree
-  u = made_by.tree
+  open it use {checked.{checked}, made_by, tree as u}
 
   abbrev own : AreOfUnit t
   own = unit_of file t it

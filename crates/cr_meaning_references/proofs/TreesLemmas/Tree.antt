@@ -17,14 +17,11 @@ use Rattle.cr_meaning_typing.specs.Typed.Whole as readable
 use Rattle.cr_meaning_declarations.specs.Units.Owned.{AreOfUnit}
 use Rattle.cr_meaning_declarations.proofs.UnitsLemmas.Handing.{laid_at, parts_below}
 use Rattle.cr_meaning_declarations.proofs.NamesLemmas.Parents.{IsPartOf}
-use Rattle.cr_meaning_files.proofs.Grammar.{part_in, Stands, stands, is_of}
-use Rattle.cr_meaning_files.proofs.Tables.{is_expression_part, expression_there, is_jump, asked, asked_there}
+use Rattle.cr_meaning_references.proofs.TreesLemmas.Grammar.{part_in, Stands, stands, is_of}
+use Rattle.cr_meaning_references.proofs.TreesLemmas.Expressions.{is_expression_part, expression_there, is_jump, asked, asked_apart}
 
 module _ (t : Typed) (unit : AreOfUnit t) where
   -- ---- a part of a node
-
-  kind_there : (i : ℕ) (n : Node) → slice_get t.nodes i ≡ Some n → kind_at t i ≡ n.kind
-  kind_there i n at = ap kind_if at
 
   -- a node with a part is there
   pub record HasPart (i k a : ℕ) : Type 0 where
@@ -97,8 +94,8 @@ module _ (t : Typed) (unit : AreOfUnit t) where
   pub operands_read : (i : ℕ) (n : Node) → slice_get t.nodes i ≡ Some n → (k : ℕ) → is_asked (form_of n.kind) k ≡ true → readable.IsOperand t.nodes i n.parts k
   operands_read i n at k h =
       let told = asked n.kind k h in
-      let apart = asked_there n.kind k h in
-      let is = needed i k n.kind (ap kind_if at) apart.0 told.1 in
+      let apart = asked_apart n.kind k h in
+      let is = needed i k n.kind (ap kind_if at) apart told.1 in
       let part = has_part i k (part_at t i k) is in
       let places = ap (λ c. is_of is_expression_part (part_in (side_of c) k)) (ap kind_if at) ∙ told.0 in
       record {

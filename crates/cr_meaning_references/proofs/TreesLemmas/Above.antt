@@ -9,7 +9,7 @@ use Rattle.cr_typed.specs.declared.typed.Typed.{Typed}
 use Rattle.cr_meaning_operations.specs.Operations.{kind_if, kind_at}
 use Rattle.cr_meaning_declarations.specs.Units.Owned.{AreOfUnit}
 use Rattle.cr_meaning_declarations.proofs.NamesLemmas.Parents.{IsPartOf, above_is}
-use Rattle.cr_meaning_files.proofs.Tree.{HasPart, as_part}
+use Rattle.cr_meaning_references.proofs.TreesLemmas.Tree.{HasPart, as_part}
 
 module _ (t : Typed) (unit : AreOfUnit t) (above : List (Option ℕ)) (around : List Around) (above_are : AreAbove t.nodes above) (around_are : AreAround t.nodes above around) where
   -- the node above a part, by its column

@@ -1,5 +1,0 @@
-use Rattle.cr_meaning_references.proofs.KeptLemmas.Kept.{keep}
-use Rattle.cr_meaning_references.proofs.kept.named_objects_are_kept.Goals as goal
-
-pub returns : goal.returns
-returns c = keep
