@@ -9,10 +9,6 @@ pub still_ahead : (until : Option ℕ) (steps after : ℕ) → IfSome until (λ 
 still_ahead None steps after h d few = tt
 still_ahead (Some u) steps after h d few = let apart : u ≢ steps = λ e. d (ap (λ n. Some n) e) in omega (arith, h, apart, few)
 
-}
-
-}
-
 next_look : (before looks after times : ℕ) → after_look looks ≡ min (before + (times + 1)) (2 ^ 64 - 1) → after ≡ after_look looks
     → after_look after ≡ min (before + (times + 1 + 1)) (2 ^ 64 - 1)
 next_look before looks after times h e = let is : after ≡ min (before + (times + 1)) (2 ^ 64 - 1) = e ∙ h in omega (arith, is)

@@ -64,8 +64,6 @@ after_header header bodies i first =
       before = form_after header bodies first.row first.before;
     })
 
-}
-
 -- behind a header, what was refused of the rows
 pub rows_refused : (header : Header) (bodies : List (Vec ℕ Global)) (body : Vec ℕ Global) (rest : List (Vec ℕ Global)) (fault : JournalFault) → bodies ≡ body ∷ rest → body.items ≡ header_body header
     → ReadsRows rest (Err fault) → ReadsBodies bodies (Err fault)

@@ -1,5 +1,5 @@
 // The texts of a reduction's end.
-ghost use Rattle.std.specs.Prelude.{◌≡◌, ◌≢◌, ◌≤◌, ◌∷◌, [], ◌++◌, IfOk, OnOk, All};
+ghost use Rattle.std.specs.Prelude.{◌≡◌, ◌≢◌, ◌≤◌, ◌∷◌, [], ◌++◌, IfOk, OnOk, All, ◌<◌};
 ghost use Rattle.std.specs.String.{string_bytes};
 ghost use Rattle.cr_reduce.specs.declared.end.Why.{Why};
 ghost use Rattle.cr_log.specs.Forms.{IsLog, IsLoggable};

@@ -15,5 +15,3 @@ module _ (old read new : Outside) (same : IsUnchanged old read) where
   refuses_earlier name r status said =
       subst (λ o. Says o new.output old.output_faults new.output_faults (refusal_line name r) (refusal_status r) (refusal_status r) status) same.output
       (subst (λ f. Says read.output new.output f new.output_faults (refusal_line name r) (refusal_status r) (refusal_status r) status) same.output_faults said)
-
-  }

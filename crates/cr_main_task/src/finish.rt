@@ -1,5 +1,5 @@
 // What comes once the bytes are reduced: the result, the log, the summary.
-ghost use Rattle.std.specs.Prelude.{◌≡◌, ◌≢◌, ◌≤◌, ℕ, All, IfOk};
+ghost use Rattle.std.specs.Prelude.{◌≡◌, ◌≢◌, ◌≤◌, ℕ, All, IfOk, ◌<◌};
 ghost use Rattle.cr_cursor.specs.TokenLaw.{IsTokenized};
 ghost use Rattle.cr_log.specs.Texts.{log_text_of, summary_text_of};
 ghost use Rattle.cr_reduce.specs.Sizes.{HasSize};

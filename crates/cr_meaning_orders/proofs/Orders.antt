@@ -18,6 +18,7 @@ use Rattle.cr_memory.specs.Memory.{Memory}
 use Rattle.cr_meaning_frames.specs.Frame.{Agree, KnowsObjects, ArePlain, IsFramed}
 use Rattle.cr_meaning_orders.specs.Fixed.{Spares, IsFixedNode, IsFixed}
 use Rattle.cr_meaning_soundness.proofs.Lasting.{OnActed, Holds, held as held_run}
+use Rattle.cr_meaning_orders.proofs.Asking.{asks_part}
 use Rattle.cr_meaning_orders.proofs.Following.{held, SeenAct, on, off, seen_on, SeenCall, back, seen_back, SeenGive, finished, seen_done}
 use Rattle.cr_meaning_seen.proofs.Seeing.{run_of, onto_bare}
 use Rattle.cr_meaning_frames.proofs.Framing.{occurs_front, occurs_back, agree_self, evaluations_rest_on_their_reads}

@@ -19,8 +19,6 @@ pub record Stands (c : Chain) (from : List ℕ) (rows : List Accepted) (file : L
   pub leads : (last : List ℕ) (count : ℕ) → Follows c file turns rest last count → Follows c from 0 rows last count
   pub breaks : (k m : ℕ) → m + 1 ≡ k + number → BreaksAt c file turns rest k → BreaksAt c from 0 rows m
 
-}
-
 module _ (c : Chain) (from : List ℕ) (rows : List Accepted) (file : List ℕ) (size turns number : ℕ) (one : Accepted) (more : List Accepted)
     (it : Stands c from rows file size turns number (one ∷ more)) where
   pub goes_on : (next : List ℕ) → IsStep c file turns one next → Stands c from rows next one.size one.turn (number + 1) more

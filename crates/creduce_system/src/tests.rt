@@ -22,7 +22,10 @@ fn a_real_file_is_written_read_and_missed(rt: HostRuntime) -> io::Result<()> {
     assert!(rt; reads(files.read(rt.alloc(), NAME, 9), "int\n"));
     assert!(rt; reads(files.read(rt.alloc(), NAME, 2), "in"));
     fs::remove_file(&rt, NAME)?;
-    assert!(rt; matches!(files.read(rt.alloc(), NAME, 9), ReadAnswer::Absent), "a file that isn't there was read");
+    assert!(rt;
+        matches!(files.read(rt.alloc(), NAME, 9), ReadAnswer::Absent),
+        "a file that isn't there was read"
+    );
     // A folder can't be read.
     assert!(rt; matches!(files.read(rt.alloc(), ".", 9), ReadAnswer::Failed));
     Ok(())
@@ -48,7 +51,10 @@ fn a_process_answers_by_its_exit_status(rt: HostRuntime) -> io::Result<()> {
         let answer = judge.ask(rt.alloc(), test, "judged.c", b"int a;\n");
         assert!(rt; answer == wanted, "{test}");
     }
-    assert!(rt; judge.asked == 3 && judge.faults == 1, "the judge counted other calls or faults");
+    assert!(rt;
+        judge.asked == 3 && judge.faults == 1,
+        "the judge counted other calls or faults"
+    );
     assert!(rt; fs::read(&rt, "creduce-trial-7/judged.c")?.as_slice() == b"int a;\n".as_slice());
     fs::remove_file(&rt, "creduce-trial-7/judged.c")?;
     fs::remove_dir(&rt, "creduce-trial-7")
@@ -71,7 +77,10 @@ fn the_smallest_file_that_passed_is_kept(rt: HostRuntime) -> io::Result<()> {
         let _ = judge.ask(rt.alloc(), test, "noted.c", file.as_bytes());
     }
     assert!(rt; fs::read(&rt, "creduce-best/noted.c")?.as_slice() == b"int b;".as_slice());
-    assert!(rt; judge.asked == 5 && judge.faults == 1, "the judge counted other calls or faults");
+    assert!(rt;
+        judge.asked == 5 && judge.faults == 1,
+        "the judge counted other calls or faults"
+    );
     fs::remove_file(&rt, "creduce-best/noted.c")?;
     fs::remove_dir(&rt, "creduce-best")?;
     fs::remove_file(&rt, "creduce-trial-8/noted.c")?;

@@ -15,9 +15,15 @@ fn a_real_file_is_a_journal(rt: HostRuntime) -> Result<(), Fail> {
     make(&mut disk, alloc)?;
     // A second run finds it locked.
     let mut second = StdDisk::new(&rt);
-    assert!(rt; second.start(alloc, NAME) == Err(DiskFault::Failed), "the disk answered otherwise");
+    assert!(rt;
+        second.start(alloc, NAME) == Err(DiskFault::Failed),
+        "the disk answered otherwise"
+    );
     // A file beside it is written through.
-    assert!(rt; disk_file(&mut disk, alloc) == Ok(()), "the disk answered otherwise");
+    assert!(rt;
+        disk_file(&mut disk, alloc) == Ok(()),
+        "the disk answered otherwise"
+    );
     let wanted = bytes_of(alloc, BOTH)?;
     expect(&rt, &fs::read(&rt, NAME)?, &wanted, NAME);
     expect(&rt, &fs::read(&rt, "f.c.orig")?, b"int a;", "f.c.orig");

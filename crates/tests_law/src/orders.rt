@@ -223,7 +223,10 @@ fn what_is_read_of_a_file_is_left_where_no_order_matters(rt: HostRuntime) -> Res
     let alloc = rt.alloc();
     let fixed = "int f(void){return 1;}int main(){return f();}";
     let loose = "int f(void){return 1;}int main(){return f()+f();}";
-    assert!(rt; left(alloc, fixed)? && !left(alloc, loose)?, "what the law leaves is another file's, or isn't left");
+    assert!(rt;
+        left(alloc, fixed)? && !left(alloc, loose)?,
+        "what the law leaves is another file's, or isn't left"
+    );
     Ok(())
 }
 

@@ -21,10 +21,16 @@ fn what_was_read_before_is_taken_and_offers_the_same(rt: HostRuntime) -> Result<
     };
     let wanted = plain.prepare(alloc, file)?;
     let found = passes.prepare(alloc, file)?;
-    assert!(rt; last.take(file).is_none(), "something where nothing should be");
+    assert!(rt;
+        last.take(file).is_none(),
+        "something where nothing should be"
+    );
     for pass in 0..PASSES {
         for level in 0..LEVELS {
-            assert!(rt; passes.width(&found, pass, level) == plain.width(&wanted, pass, level), "a level has another width");
+            assert!(rt;
+                passes.width(&found, pass, level) == plain.width(&wanted, pass, level),
+                "a level has another width"
+            );
         }
     }
     assert!(rt; passes.width(&found, 5, 0) > 0, "the level is empty");

@@ -654,7 +654,10 @@ fn expect_read_back(rt: &impl Abort, alloc: Global, text: &[u8]) -> Result<(), F
     assert!(rt; text.len() <= 100, "the text is too long");
     let log = read_log(alloc, text)?;
     let found = log_told(alloc, &log)?;
-    assert!(rt; found.as_str() == READ_BACK, "the texts are read back otherwise");
+    assert!(rt;
+        found.as_str() == READ_BACK,
+        "the texts are read back otherwise"
+    );
     Ok(())
 }
 

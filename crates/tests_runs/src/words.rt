@@ -66,6 +66,9 @@ fn no_words_come_to_their_status_also_where_nothing_can_be_put(
     failing.push(1)?;
     let mut out = MemSink::new(alloc, failing);
     let status = status_of(&rt, alloc, &[], &mut files, &mut bench, &mut out);
-    assert!(rt; status == 2 && out.bytes().is_empty(), "not as it should be, or not empty");
+    assert!(rt;
+        status == 2 && out.bytes().is_empty(),
+        "not as it should be, or not empty"
+    );
     Ok(())
 }

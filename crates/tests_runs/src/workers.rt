@@ -88,7 +88,10 @@ fn expect_kept(
     let words = words_of(alloc, 2, 256, "--passes l w.sh t.c")?;
     let (status, _, after, _, log) = outcome(rt, alloc, &words, KEPT, bench)?;
     assert!(rt; status == 0, "{status} and not 0");
-    assert!(rt; after.as_deref() == Some(KEPT) && log.as_deref() == Some(KEPT_LOG), "another file, or another log");
+    assert!(rt;
+        after.as_deref() == Some(KEPT) && log.as_deref() == Some(KEPT_LOG),
+        "another file, or another log"
+    );
     Ok(())
 }
 
@@ -98,7 +101,10 @@ fn trials_of_a_run_go_on_at_once(rt: HostRuntime) -> Result<(), AllocError> {
     let missed = AtomicU64::new(0);
     let mut bench = waiting_bench(rt.alloc(), &begun, &missed)?;
     expect_kept(&rt, rt.alloc(), &mut bench)?;
-    assert!(rt; missed.load(Ordering::SeqCst) == 0, "a trial waited for another one in vain");
+    assert!(rt;
+        missed.load(Ordering::SeqCst) == 0,
+        "a trial waited for another one in vain"
+    );
     Ok(())
 }
 
@@ -122,8 +128,14 @@ fn trials_of_a_run_by_standing_workers_go_on_at_once(rt: HostRuntime) -> Result<
     let missed = AtomicU64::new(0);
     let mut bench = waiting_bench(rt.alloc(), &begun, &missed)?;
     let log = standing_log(&rt, rt.alloc(), &mut bench)?;
-    assert!(rt; log.as_deref() == Some(KEPT_LOG), "another file, or another log");
-    assert!(rt; missed.load(Ordering::SeqCst) == 0, "a trial waited for another one in vain");
+    assert!(rt;
+        log.as_deref() == Some(KEPT_LOG),
+        "another file, or another log"
+    );
+    assert!(rt;
+        missed.load(Ordering::SeqCst) == 0,
+        "a trial waited for another one in vain"
+    );
     Ok(())
 }
 

@@ -118,7 +118,10 @@ fn a_hundred_random_reductions_come_out_as_by_epochs(rt: HostRuntime) -> Result<
         };
         let plain = reduced(&rt, rt.alloc(), seed, false, &plan)?;
         let standing = reduced(&rt, rt.alloc(), seed, true, &plan)?;
-        assert!(rt; are_alike(&standing, &plain), "another end than the plain run's");
+        assert!(rt;
+            are_alike(&standing, &plain),
+            "another end than the plain run's"
+        );
     }
     Ok(())
 }

@@ -111,8 +111,14 @@ fn any_number_of_workers_come_to_the_same(rt: HostRuntime) -> Result<(), AllocEr
         for window in [1u32, 2, 8, 256] {
             let mut bench = knowing(rt.alloc(), KNOWN, workers)?;
             let end = reduced(&rt, rt.alloc(), &mut bench, window)?;
-            assert!(rt; is_wanted(&end), "another end than the one-thread reduction's");
-            assert!(rt; u64::from(bench.workers()) == workers, "another number of workers");
+            assert!(rt;
+                is_wanted(&end),
+                "another end than the one-thread reduction's"
+            );
+            assert!(rt;
+                u64::from(bench.workers()) == workers,
+                "another number of workers"
+            );
         }
     }
     Ok(())
@@ -122,7 +128,10 @@ fn any_number_of_workers_come_to_the_same(rt: HostRuntime) -> Result<(), AllocEr
 fn a_failed_test_above_the_hit_is_dropped(rt: HostRuntime) -> Result<(), AllocError> {
     let mut bench = knowing(rt.alloc(), WITH_A_FAULT, 4)?;
     let end = reduced(&rt, rt.alloc(), &mut bench, 8)?;
-    assert!(rt; is_wanted(&end), "another end than the one-thread reduction's");
+    assert!(rt;
+        is_wanted(&end),
+        "another end than the one-thread reduction's"
+    );
     Ok(())
 }
 
@@ -133,7 +142,10 @@ fn a_worker_whose_test_fails_ends_nothing(rt: HostRuntime) -> Result<(), AllocEr
     judges.push(Knowing::new(KNOWN, 100))?;
     let mut bench = Bench::new(rt.alloc(), judges)?;
     let end = reduced(&rt, rt.alloc(), &mut bench, 8)?;
-    assert!(rt; is_wanted(&end), "another end than the one-thread reduction's");
+    assert!(rt;
+        is_wanted(&end),
+        "another end than the one-thread reduction's"
+    );
     Ok(())
 }
 
@@ -142,8 +154,14 @@ fn the_first_judges_failed_test_ends_it(rt: HostRuntime) -> Result<(), AllocErro
     let mut bench = knowing(rt.alloc(), FAILING, 2)?;
     let end = reduced(&rt, rt.alloc(), &mut bench, 8)?;
     assert!(rt; end.why == Why::Fault(14, 0), "another end");
-    assert!(rt; end.turns == 13 && end.file.as_slice() == LINES, "other turns, or another file");
-    assert!(rt; faults_of_first(rt.alloc(), &mut bench) > 0, "the first judge counted no fault");
+    assert!(rt;
+        end.turns == 13 && end.file.as_slice() == LINES,
+        "other turns, or another file"
+    );
+    assert!(rt;
+        faults_of_first(rt.alloc(), &mut bench) > 0,
+        "the first judge counted no fault"
+    );
     Ok(())
 }
 
@@ -154,6 +172,9 @@ fn trials_run_at_once(rt: HostRuntime) -> Result<(), AllocError> {
     let mut bench = meeting_bench(rt.alloc(), &begun, &missed)?;
     let end = reduced(&rt, rt.alloc(), &mut bench, 8)?;
     assert!(rt; end.why == Why::Fixed && end.turns == 18, "another end");
-    assert!(rt; missed.load(Ordering::SeqCst) == 0, "a trial waited for another one in vain");
+    assert!(rt;
+        missed.load(Ordering::SeqCst) == 0,
+        "a trial waited for another one in vain"
+    );
     Ok(())
 }

@@ -129,7 +129,10 @@ fn texts_are_printed(rt: HostRuntime) -> Result<(), Fail> {
         expect_row(&rt, rt.alloc(), row)?;
     }
     expect_printed(&rt, rt.alloc(), SAMPLE.as_bytes(), PRINTED_SAMPLE)?;
-    assert!(rt; count_of(rt.alloc(), PRINTED_SAMPLE.as_bytes()) == Ok(143), "another number of tokens than 143");
+    assert!(rt;
+        count_of(rt.alloc(), PRINTED_SAMPLE.as_bytes()) == Ok(143),
+        "another number of tokens than 143"
+    );
     assert!(rt; count_of(rt.alloc(), b"...") == Ok(1));
     Ok(())
 }

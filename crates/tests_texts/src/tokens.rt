@@ -281,7 +281,10 @@ fn texts_have_their_sizes(rt: HostRuntime) -> Result<(), AllocError> {
     let sample = SAMPLE.as_bytes();
     expect_size(&rt, rt.alloc(), sample, "1686", "the sample")?;
     assert!(rt; sample.len() == 407, "{} and not 407", sample.len());
-    assert!(rt; count_of(rt.alloc(), sample) == Ok(143), "another number of tokens than 143");
+    assert!(rt;
+        count_of(rt.alloc(), sample) == Ok(143),
+        "another number of tokens than 143"
+    );
     Ok(())
 }
 

@@ -150,7 +150,10 @@ Shr greatest -1 U4
 ";
 
 fn expect_conversion(rt: &impl Abort, value: i128, to: IntKind, wanted: i128) {
-    assert!(rt; IntKind::ULLong.can_represent(value) || IntKind::LLong.can_represent(value), "the kind doesn't represent the value");
+    assert!(rt;
+        IntKind::ULLong.can_represent(value) || IntKind::LLong.can_represent(value),
+        "the kind doesn't represent the value"
+    );
     assert!(rt; convert(value, to) == wanted, "{value} to {to:?}");
 }
 

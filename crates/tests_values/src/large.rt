@@ -20,7 +20,10 @@ fn expect_cell(rt: &impl Abort, store: &Store, object: u32, cell: u32, wanted: R
 
 fn set_cell(rt: &impl Abort, store: &mut Store, object: u32, cell: u32, value: Cell) {
     let at = place(object, cell, 0, MANY, 1);
-    assert!(rt; save(rt, store, at, INT, value) == Ok(()), "the store answered otherwise");
+    assert!(rt;
+        save(rt, store, at, INT, value) == Ok(()),
+        "the store answered otherwise"
+    );
 }
 
 fn clear(rt: &impl Abort, store: &mut Store, object: u32) {
@@ -52,15 +55,27 @@ fn a_large_object_is_cleared_and_leaves_beside_small_ones(rt: HostRuntime) {
     let before = enter(&rt, &mut store, &[FREE; 3], true);
     let large = enter_many(&rt, &mut store, false);
     let behind = enter(&rt, &mut store, &[FREE; 3], false);
-    assert!(rt; store.enter_times(&[FREE], MANY, false) == Err(Trap::Left(3)), "the store answered otherwise");
+    assert!(rt;
+        store.enter_times(&[FREE], MANY, false) == Err(Trap::Left(3)),
+        "the store answered otherwise"
+    );
     // A structure of three cells on both sides of the end of a block, from the object behind and to the one before.
     for cell in 0..3 {
         let at = place(behind, cell, 0, 3, 1);
-        assert!(rt; save(&rt, &mut store, at, INT, Cell::Number(i128::from(cell))) == Ok(()), "the store answered otherwise");
+        assert!(rt;
+            save(&rt, &mut store, at, INT, Cell::Number(i128::from(cell))) == Ok(()),
+            "the store answered otherwise"
+        );
     }
     let (from, middle) = (place(behind, 0, 0, 3, 3), place(large, 255, 255, 258, 3));
-    assert!(rt; copy(&rt, &mut store, from, middle, 3) == Ok(()), "the store answered otherwise");
-    assert!(rt; copy(&rt, &mut store, middle, place(before, 0, 0, 3, 3), 3) == Ok(()), "the store answered otherwise");
+    assert!(rt;
+        copy(&rt, &mut store, from, middle, 3) == Ok(()),
+        "the store answered otherwise"
+    );
+    assert!(rt;
+        copy(&rt, &mut store, middle, place(before, 0, 0, 3, 3), 3) == Ok(()),
+        "the store answered otherwise"
+    );
     clear(&rt, &mut store, large);
     expect_cell(&rt, &store, large, 256, Err(Trap::Undefined(11)));
     leave(&rt, &mut store, large);

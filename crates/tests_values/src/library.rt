@@ -105,7 +105,10 @@ fn printed(
     out: &mut Vec<u8>,
 ) -> Result<Option<ShowEnd>, FormatEnd> {
     let wanted = pieces(alloc, format.as_bytes())?;
-    assert!(rt; wanted.len() == 1 && wanted[0].takes_integer(), "another piece");
+    assert!(rt;
+        wanted.len() == 1 && wanted[0].takes_integer(),
+        "another piece"
+    );
     expect_value(rt, kind, value);
     Ok(show(&wanted[0], kind, value, out).err())
 }

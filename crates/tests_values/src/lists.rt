@@ -19,8 +19,14 @@ fn change_the_first(rows: &mut [Row<u32>]) -> Result<(), Fail> {
 
 fn expect_changed(rt: &impl Abort, rows: &[Row<u32>]) -> Result<(), AllocError> {
     assert!(rt; rows.len() == 2, "{} and not 2", rows.len());
-    assert!(rt; rows[0].as_slice() == [2, 5, 8].as_slice(), "other cells, or other rows");
-    assert!(rt; rows[0].len() == 3 && rows[1].is_empty(), "not as it should be, or not empty");
+    assert!(rt;
+        rows[0].as_slice() == [2, 5, 8].as_slice(),
+        "other cells, or other rows"
+    );
+    assert!(rt;
+        rows[0].len() == 3 && rows[1].is_empty(),
+        "not as it should be, or not empty"
+    );
     let mut copy = rows[0].clone()?;
     let last = copy.pop();
     assert!(rt; last == Some(8), "another last item");

@@ -137,7 +137,10 @@ fn begin(rt: &impl Abort, store: &mut Store, object: u32, cell: u32, value: Cell
     let kind = store.kind_of(object, cell);
     assert!(rt; kind.is_some(), "nothing where something should be");
     if let Some(kind) = kind {
-        assert!(rt; store.holds(kind, value), "the cell's kind doesn't hold the value");
+        assert!(rt;
+            store.holds(kind, value),
+            "the cell's kind doesn't hold the value"
+        );
         store.begin(object, cell, value);
     }
 }
@@ -148,7 +151,10 @@ fn expect_load(rt: &impl Abort, store: &Store, at: Pointer, wanted: Result<Cell,
 }
 
 fn expect_full(rt: &impl Abort, store: &mut Store, shape: &[(Scalar, Guard)], zero: bool) {
-    assert!(rt; store.enter(shape, zero) == Err(Trap::Left(3)), "the store answered otherwise");
+    assert!(rt;
+        store.enter(shape, zero) == Err(Trap::Left(3)),
+        "the store answered otherwise"
+    );
 }
 
 fn expect_unset(rt: &impl Abort, alloc: Global, store: &Store, whole: Pointer) -> Result<(), Fail> {
@@ -156,7 +162,10 @@ fn expect_unset(rt: &impl Abort, alloc: Global, store: &Store, whole: Pointer) -
     let kinds = [INT; 6];
     assert!(rt; has_stride(whole, 6), "the pointer has another stride");
     let cells = store.cells(alloc, whole, &kinds).ok().ok_or("no cells")?;
-    assert!(rt; cells.as_slice() == [Cell::Unset; 6].as_slice(), "other cells, or other rows");
+    assert!(rt;
+        cells.as_slice() == [Cell::Unset; 6].as_slice(),
+        "other cells, or other rows"
+    );
     Ok(())
 }
 
@@ -187,7 +196,10 @@ fn several_objects(rt: &impl Abort, store: &mut Store) {
     enter(rt, store, &[(INT, Guard::Free)], true);
     enter(rt, store, &[(TO_INT, Guard::Free)], true);
     let to_e = Cell::Pointer(place(5, 0, 0, 1, 1));
-    assert!(rt; save(rt, store, place(6, 0, 0, 1, 1), TO_INT, to_e).is_ok(), "it was refused");
+    assert!(rt;
+        save(rt, store, place(6, 0, 0, 1, 1), TO_INT, to_e).is_ok(),
+        "it was refused"
+    );
     leave(rt, store, 5);
 }
 
@@ -243,11 +255,17 @@ fn a_copy_reads_all_cells_before_it_writes_one(rt: HostRuntime) {
     several_objects(&rt, &mut store);
     for (cell, value) in [(0, 1), (1, 2), (2, 3)] {
         let at = place(0, cell, 0, 6, 1);
-        assert!(rt; save(&rt, &mut store, at, INT, Cell::Number(value)) == Ok(()), "the store answered otherwise");
+        assert!(rt;
+            save(&rt, &mut store, at, INT, Cell::Number(value)) == Ok(()),
+            "the store answered otherwise"
+        );
     }
     // The structures of two cells at 0 and at 1 overlap, in one array each.
     let (from, to) = (place(0, 0, 0, 6, 2), place(0, 1, 1, 5, 2));
-    assert!(rt; copy(&rt, &mut store, from, to, 2) == Ok(()), "the store answered otherwise");
+    assert!(rt;
+        copy(&rt, &mut store, from, to, 2) == Ok(()),
+        "the store answered otherwise"
+    );
     for (cell, value) in [(0, 1), (1, 1), (2, 2), (3, 0)] {
         let at = place(0, cell, 0, 6, 1);
         expect_load(&rt, &store, at, Ok(Cell::Number(value)));
@@ -275,7 +293,10 @@ fn a_copy_answers_the_first_case(rt: HostRuntime) -> Result<(), AllocError> {
     // The unset cell and the pointer to an ended object were copied as they are.
     expect_load(&rt, &store, place(0, 0, 0, 6, 1), Err(Trap::Undefined(11)));
     let ended = load(&rt, &store, place(3, 0, 0, 1, 1), TO_INT);
-    assert!(rt; ended == Err(Trap::Undefined(10)), "the store answered otherwise");
+    assert!(rt;
+        ended == Err(Trap::Undefined(10)),
+        "the store answered otherwise"
+    );
     Ok(())
 }
 
@@ -306,7 +327,10 @@ fn compare(
     left: Pointer,
     right: Pointer,
 ) -> (Result<bool, Trap>, Result<bool, Trap>) {
-    assert!(rt; store.is_pointer(left) && store.is_pointer(right), "no pointer of the store");
+    assert!(rt;
+        store.is_pointer(left) && store.is_pointer(right),
+        "no pointer of the store"
+    );
     (store.less(left, right), store.same(left, right))
 }
 
@@ -332,7 +356,10 @@ fn pointers_compare_in_their_object(rt: HostRuntime) -> Result<(), AllocError> {
 }
 
 fn differ(rt: &impl Abort, store: &Store, left: Pointer, right: Pointer) -> Result<i128, Trap> {
-    assert!(rt; store.is_pointer(left) && store.is_pointer(right), "no pointer of the store");
+    assert!(rt;
+        store.is_pointer(left) && store.is_pointer(right),
+        "no pointer of the store"
+    );
     store.differ(left, right)
 }
 

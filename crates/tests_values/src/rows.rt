@@ -65,7 +65,10 @@ pub(crate) fn kind(name: &str) -> Result<IntKind, Fail> {
 pub(crate) fn expect_value(rt: &impl Abort, kind: IntKind, value: i128)
     ensures { Represents kind value }
 {
-    assert!(rt; kind.can_represent(value), "the kind doesn't represent the value");
+    assert!(rt;
+        kind.can_represent(value),
+        "the kind doesn't represent the value"
+    );
 }
 
 /// The one assertion of tables.

@@ -68,7 +68,10 @@ pub(crate) fn save(
     value: Cell,
 ) -> Result<(), Trap> {
     assert!(rt; store.is_pointer(at), "no pointer of the store");
-    assert!(rt; store.holds(kind, value), "the cell's kind doesn't hold the value");
+    assert!(rt;
+        store.holds(kind, value),
+        "the cell's kind doesn't hold the value"
+    );
     store.save(at, kind, value)
 }
 

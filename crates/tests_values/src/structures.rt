@@ -24,8 +24,14 @@ fn put(
     first: Scalar,
     second: Scalar,
 ) -> Result<(), Trap> {
-    assert!(rt; store.is_pointer(to) && has_stride(to, 2), "no pointer of the store, or another stride");
-    assert!(rt; store.holds(first, ONE) && store.holds(second, TWO), "the cell's kind doesn't hold the value");
+    assert!(rt;
+        store.is_pointer(to) && has_stride(to, 2),
+        "no pointer of the store, or another stride"
+    );
+    assert!(rt;
+        store.holds(first, ONE) && store.holds(second, TWO),
+        "the cell's kind doesn't hold the value"
+    );
     store.put(to, &[first, second], &[ONE, TWO])
 }
 

@@ -64,7 +64,10 @@ fn epoch<R: Threads + Abort + Sync, L: Law + Sync, J: Judge + Send>(
     let question = Test::Program(String::from_str(alloc, "t")?);
     let passes = CPasses::lines();
     let prep = passes.prepare(alloc, LINES)?;
-    assert!(rt; positions(&passes, &prep) == 18, "another number of positions than 18");
+    assert!(rt;
+        positions(&passes, &prep) == 18,
+        "another number of positions than 18"
+    );
     let job = Job {
         passes: &passes,
         prep: &prep,
@@ -87,7 +90,10 @@ fn trials_run_at_once(rt: HostRuntime) -> Result<(), NoMemory> {
     let mut bench = meeting_bench(rt.alloc(), &begun, &missed)?;
     let end = epoch(&rt, rt.alloc(), &TokenLaw, &mut bench, 5)?;
     assert!(rt; rejected_all(&end, 5), "the epoch didn't reject all");
-    assert!(rt; missed.load(Ordering::SeqCst) == 0, "a trial waited for another one in vain");
+    assert!(rt;
+        missed.load(Ordering::SeqCst) == 0,
+        "a trial waited for another one in vain"
+    );
     Ok(())
 }
 
@@ -183,8 +189,14 @@ fn a_law_is_told_of_a_lower_hit(rt: HostRuntime) -> Result<(), NoMemory> {
     };
     let mut bench = following_bench(rt.alloc(), &flag)?;
     let end = epoch(&rt, rt.alloc(), &law, &mut bench, 2)?;
-    assert!(rt; has_found(&end, 13, LAST), "the epoch found another position, or none");
-    assert!(rt; stopped.load(Ordering::SeqCst) == 1, "the law was stopped another number of times");
+    assert!(rt;
+        has_found(&end, 13, LAST),
+        "the epoch found another position, or none"
+    );
+    assert!(rt;
+        stopped.load(Ordering::SeqCst) == 1,
+        "the law was stopped another number of times"
+    );
     Ok(())
 }
 

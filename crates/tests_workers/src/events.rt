@@ -40,7 +40,12 @@ fn after(alloc: Global, count: usize) -> Result<Core, NoMemory> {
 #[test]
 fn the_row_ends_at_the_hit(rt: HostRuntime) -> Result<(), NoMemory> {
     let core = run(rt.alloc(), 3, 2, &ROW)?;
-    assert!(rt; (core.next, core.least) == (3, 4), "next is {}, least is {}", core.next, core.least);
+    assert!(rt;
+        (core.next, core.least) == (3, 4),
+        "next is {}, least is {}",
+        core.next,
+        core.least
+    );
     assert!(rt; core.lists.len() == 2, "{} and not 2", core.lists.len());
     expect_list(
         &rt,
@@ -49,7 +54,10 @@ fn the_row_ends_at_the_hit(rt: HostRuntime) -> Result<(), NoMemory> {
         &[entry(0, Mark::No), entry(2, Mark::Skipped)],
     );
     expect_list(&rt, &core, 1, &[entry(1, Mark::Hit(HitKind::Yes))]);
-    assert!(rt; core.first() == First::At(1, HitKind::Yes), "another first hit");
+    assert!(rt;
+        core.first() == First::At(1, HitKind::Yes),
+        "another first hit"
+    );
     Ok(())
 }
 
@@ -83,7 +91,12 @@ fn what_is_not_allowed_changes_nothing(rt: HostRuntime) -> Result<(), NoMemory> 
         Event::Look(2),
     ] {
         let core = stepped(&rt, rt.alloc(), 1, event, false)?;
-        assert!(rt; (core.next, core.least, core.lists.len()) == (1, 15, 2), "next is {}, least is {}", core.next, core.least);
+        assert!(rt;
+            (core.next, core.least, core.lists.len()) == (1, 15, 2),
+            "next is {}, least is {}",
+            core.next,
+            core.least
+        );
         expect_list(&rt, &core, 0, &[entry(0, Mark::Open)]);
         expect_list(&rt, &core, 1, &[]);
     }

@@ -127,7 +127,10 @@ fn asked_twice<R: Threads + Abort + Sync>(
     let asked = both(&calls, &rulings);
     job.len = again;
     let second = bench.epoch(rt, alloc, &job);
-    assert!(rt; rejected_all(&first, lines) && rejected_all(&second, again), "the epoch didn't reject all");
+    assert!(rt;
+        rejected_all(&first, lines) && rejected_all(&second, again),
+        "the epoch didn't reject all"
+    );
     Ok((asked, both(&calls, &rulings)))
 }
 
@@ -166,7 +169,10 @@ fn expect_calls<R: Threads + Abort + Sync>(
     requires { (asked.1 ≤ asked.0) × (asked.0 ≤ 4096) }
 {
     let seen = asked_twice(rt, alloc, file, asked.0, asked.1)?;
-    assert!(rt; seen == (Some(wanted.0), Some(wanted.1)), "other calls were seen");
+    assert!(rt;
+        seen == (Some(wanted.0), Some(wanted.1)),
+        "other calls were seen"
+    );
     Ok(())
 }
 

@@ -10,13 +10,34 @@ fn expect_hits(rt: &impl Abort, core: &mut Core) -> Result<(), NoMemory>
     requires small { core.old.len ≤ 4096 }
     requires sound { IsSoundState (state_of core.old) }
 {
-    assert!(rt; core.step(Event::Claim(0, Settle::Nothing))?, "the machine refused an event that is allowed");
-    assert!(rt; core.step(Event::Claim(1, Settle::Nothing))?, "the machine refused an event that is allowed");
-    assert!(rt; core.step(Event::Hit(1, HitKind::Yes))?, "the machine refused an event that is allowed");
-    assert!(rt; core.first() == First::At(1, HitKind::Yes), "another first hit");
-    assert!(rt; !core.step(Event::Claim(0, Settle::Skipped))?, "the machine took an event that isn't allowed");
-    assert!(rt; core.step(Event::Hit(0, HitKind::Failed))?, "the machine refused an event that is allowed");
-    assert!(rt; core.first() == First::At(0, HitKind::Failed), "another first hit");
+    assert!(rt;
+        core.step(Event::Claim(0, Settle::Nothing))?,
+        "the machine refused an event that is allowed"
+    );
+    assert!(rt;
+        core.step(Event::Claim(1, Settle::Nothing))?,
+        "the machine refused an event that is allowed"
+    );
+    assert!(rt;
+        core.step(Event::Hit(1, HitKind::Yes))?,
+        "the machine refused an event that is allowed"
+    );
+    assert!(rt;
+        core.first() == First::At(1, HitKind::Yes),
+        "another first hit"
+    );
+    assert!(rt;
+        !core.step(Event::Claim(0, Settle::Skipped))?,
+        "the machine took an event that isn't allowed"
+    );
+    assert!(rt;
+        core.step(Event::Hit(0, HitKind::Failed))?,
+        "the machine refused an event that is allowed"
+    );
+    assert!(rt;
+        core.first() == First::At(0, HitKind::Failed),
+        "another first hit"
+    );
     Ok(())
 }
 

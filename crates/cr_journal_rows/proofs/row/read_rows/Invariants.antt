@@ -1,4 +1,4 @@
-use Rattle.std.proofs.Common.{◌≡◌, ◌≤◌, ◌++◌, All, drop, length, map}
+use Rattle.std.proofs.Common.{◌≡◌, ◌≤◌, ◌++◌, All, drop, length, map, ◌<◌}
 use Rattle.cr_journal_records.specs.Reading.{bodies_of}
 use Rattle.cr_journal_rows.specs.Forms.{RowFits, row_body}
 use Rattle.cr_journal_rows.proofs.row.read_rows.Given as goal
