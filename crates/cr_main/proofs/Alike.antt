@@ -185,6 +185,7 @@ module _ (a b : Settings) (same : SameSettings a b) (back : SameSettings b a) (o
           log = it.log;
           copy = it.copy;
           output = it.output;
+          rests = it.rests;
         },
       )
 

@@ -72,10 +72,10 @@ module _ (k : KeptTask) (marks : Marks) (from : Source) (old new : Outside) (bef
   by_workers run = bound_promises k.law (at k) (λ bytes. by_standing (at k bytes)) k.name (text_of from old.files) old new before after status (λ bytes. standing_told (at k bytes)) (λ bytes a b same. same)
       (opens_on from old.files) (opens_fails from old.files) (opens_keep from old.files) run
 
-  by_journal : k.saves ≡ true → RunsIn engine.Journal k marks from old new before after has_failed status → PromisesOn k old new before after has_failed status
+  by_journal : k.saves ≡ true → RunsIn engine.Journal k marks from old new before after has_failed status → PromisesOn k marks old new before after has_failed status
   by_journal saves run = kept_promises k marks old new before after has_failed status saves (inl run.0)
 
-  by_resume : k.saves ≡ true → RunsIn engine.Resume k marks from old new before after has_failed status → PromisesOn k old new before after has_failed status
+  by_resume : k.saves ≡ true → RunsIn engine.Resume k marks from old new before after has_failed status → PromisesOn k marks old new before after has_failed status
   by_resume saves run = kept_promises k marks old new before after has_failed status saves (inr run.0)
 
   pub survives_in : (e : Engine) → IsKept e → RunsIn e k marks from old new before after has_failed status → Survives k marks old new status

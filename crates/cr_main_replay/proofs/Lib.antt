@@ -4,3 +4,4 @@ pub mod Real
 pub mod Statuses
 pub mod Promises
 pub mod Exact
+pub mod Touching

@@ -20,7 +20,7 @@ begins_of None name most v reads = tt
 begins_of (Some files) name most v reads = shows_first (content_of files name) most v.items reads
 
 pub same_reads : (old : Outside) → HasRead [] old old
-same_reads old = record { story = refl; same = record { files = refl; output = refl; file_faults = omega arith; output_faults = refl } }
+same_reads old = record { story = refl; same = record { files = refl; output = refl; faults = omega arith; output_faults = refl } }
 
 pub reads_on : (one : Reading) (more : List Reading) (old mid new : Outside) → HasRead (one ∷ []) old mid → HasRead more mid new → HasRead (one ∷ more) old new
 reads_on one more old mid new first then = record {
@@ -28,7 +28,7 @@ reads_on one more old mid new first then = record {
   same = record {
     files = then.same.files ∙ first.same.files;
     output = then.same.output ∙ first.same.output;
-    file_faults = omega (arith, first.same.file_faults, then.same.file_faults);
+    faults = omega (arith, first.same.faults, then.same.faults);
     output_faults = then.same.output_faults ∙ first.same.output_faults;
   };
 }

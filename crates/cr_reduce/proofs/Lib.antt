@@ -12,3 +12,4 @@ pub mod Epochs
 pub mod Keepings
 pub mod Resumed
 pub mod Fronts
+pub mod There

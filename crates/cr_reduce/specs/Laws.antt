@@ -1,10 +1,12 @@
 -- Laws of the reduction by told answers, for any search.
 use Rattle.std.specs.Prelude.{◌≡◌, ℕ, Bool, List, Option}
+use Rattle.cr_cursor.specs.Variants.{Offer}
 use Rattle.cr_outside.specs.Question.{Says}
 use Rattle.cr_pool.specs.Kept.{Kept}
 use Rattle.cr_reduce.specs.Keeping.{EndsOnAsTold, Front, IsFrontOfAll, IsKeptOf, ReducesOnAsTold}
 use Rattle.cr_reduce.specs.Reduction.{Proposals, Trial, State, Outcome}
 use Rattle.cr_reduce.specs.Search.{Search, AcceptsAsTold, RejectsAsTold, ReducesAsTold, ReducesFileAsTold, search_of}
+use Rattle.cr_reduce.specs.Sizes.{HasSize}
 use Rattle.cr_reduce.specs.declared.end.End.{End}
 use Rattle.cr_reduce.specs.declared.end.Kept.{Kept as KeptRows}
 
@@ -31,6 +33,16 @@ AcceptsAFront s = (limit : Option ℕ) (kept : KeptRows) (e : End) → EndsOnAsT
 abbrev pub GoesOnToTheSame : Search → Type 0
 GoesOnToTheSame s = (limit : Option ℕ) (file : List ℕ) (kept : KeptRows) (out : Outcome) → IsKeptOf s.Offers file kept → Front kept.accepted.items out.accepted
     → ReducesFileAsTold s file limit out → ReducesOnAsTold s kept limit out
+
+-- it can't be that there is none
+abbrev pub NotNone : Type 0 → Type 0
+NotNone A = (A → ⊥) → ⊥
+
+-- Where no lawful file is without a told answer, and no file that has a size without an offer, no file that has one is without a reduction, whatever the
+-- limit.
+abbrev pub ReductionsAreThere : Search → Type 0
+ReductionsAreThere s = ((v : List ℕ) → s.Lawful v → NotNone ((answer : Bool) × s.Tells v answer)) → ((v : List ℕ) (n : ℕ) → HasSize v n → NotNone ((o : Offer) × s.Offers v o))
+    → (limit : Option ℕ) (file : List ℕ) (size : ℕ) → HasSize file size → NotNone ((out : Outcome) × ReducesFileAsTold s file limit out)
 
 -- whatever the judges say, and whatever is kept
 abbrev pub ForAnyJudge : Proposals → (List ℕ → Type 0) → Bool → (Says → List ℕ → List ℕ → Bool → Type 0) → (Search → Type 0) → Type 0

@@ -1,5 +1,5 @@
 //! What always holds of the reduction by told answers: each law is the clause of a function that does nothing.
-ghost use Rattle.cr_reduce.specs.Laws.{AcceptsAFront, ForAnyJudge, GoesOnToTheSame, HasOneOutcome, HasOneReduction, ToldTrialsExclude};
+ghost use Rattle.cr_reduce.specs.Laws.{AcceptsAFront, ForAnyJudge, GoesOnToTheSame, HasOneOutcome, HasOneReduction, ReductionsAreThere, ToldTrialsExclude};
 
 use cr_cursor::{Law, Passes};
 use cr_outside::Question;
@@ -24,6 +24,11 @@ pub fn a_told_reduction_has_one_outcome<P: Passes, L: Law, Q: Question>(
 
     // and so of each file
     ensures reduction { ForAnyJudge (P.offers passes.now) (L.lawful law.now) (Q.asks question.now) (Q.tells question.now) HasOneReduction }
+{}
+
+/// Where no lawful file is without an answer, and no file that has a size without an offer, no file that has one is without a reduction.
+pub fn told_reductions_are_there<P: Passes, L: Law, Q: Question>(passes: &P, law: &L, question: &Q)
+    ensures { ForAnyJudge (P.offers passes.now) (L.lawful law.now) (Q.asks question.now) (Q.tells question.now) ReductionsAreThere }
 {}
 
 /// Where a reduction that went on was cut short, what it accepted comes first in what the whole one accepts.
