@@ -23,13 +23,13 @@ use Rattle.cr_check_declarators.specs.declared.declarator.Declarator.{Declarator
 use Rattle.cr_check_declarators.specs.declared.enumerators.Enumerated.{Enumerated}
 use Rattle.cr_check_declarators.specs.Specifiers.{is_one_type_of, storage_fault_of, inline_fault_of, volatile_fault_of, declares_names, is_member}
 use Rattle.cr_check_declarators.specs.Declarators.{whole_elements, whole_object, is_object_of, cells_fault_of, function_fault_of, open_fault_of}
-use Rattle.cr_check_declarators.specs.Structures.{is_too_large_of, tag_agrees}
+use Rattle.cr_check_declarators.specs.Structures.{is_too_large_of}
 use Rattle.cr_check_declarators.specs.Linkages.{linkage_of, may_be_initialised_of}
 use Rattle.cr_check_declarations.specs.declared.tree.Tag.{Tag}
 use Rattle.cr_check_declarations.specs.declared.tree.Tree.{Tree}
 use Rattle.cr_check_declarations.specs.declared.faults.Own as columns
 use Rattle.cr_check_declarations.specs.Before.{Before, kind_in, first_in, parts_in, type_in, specified_in, declarator_in}
-use Rattle.cr_check_declarations.specs.Named.{is_declarator, declaration_of, is_initialised, specifiers_in, class_of, is_typedef, parameter_nodes}
+use Rattle.cr_check_declarations.specs.Named.{is_declarator, declaration_of, is_initialised, specifiers_in, is_listed, tag_breaks, class_of, is_typedef, parameter_nodes}
 
 -- ---- what a node has itself
 
@@ -103,16 +103,7 @@ is_whole t i = not (are_specifiers (kind_in t.nodes.now (slice_index_or t.above.
 abbrev pub is_lone : Place → Bool
 is_lone at = not (declares_names at)
 
--- the content of the tag stands before node i
-abbrev pub is_listed : Option ℕ → ℕ → Bool
-is_listed None i = false
-is_listed (Some content) i = nat_lt content i
-
 -- K5
-abbrev pub tag_breaks : Kind → Option Kind → Bool → Bool
-tag_breaks k None listed = false
-tag_breaks k (Some first) listed = not (tag_agrees k first listed)
-
 abbrev pub tag_fault : Kind → Tree → ℕ → Option Tag → Option Break
 tag_fault k t i None = None
 tag_fault k t i (Some tag) = fault 5 tag.token (tag_breaks k (kind_in t.nodes.now (Some tag.first)) (is_listed tag.content i))
@@ -146,9 +137,13 @@ abbrev pub declares_functions : (ℕ → Declarator) → Specified → List ℕ 
 declares_functions has said declarators =
     not (is_typedef (class_of said.storage)) && (not (is_nothing declarators) && list_all (is_function has) declarators)
 
+-- some of what is declared is a function, and no type names
+abbrev pub declares_function : (ℕ → Declarator) → Specified → List ℕ → Bool
+declares_function has said declarators = not (is_typedef (class_of said.storage)) && list_any (is_function has) declarators
+
 abbrev pub declaration_faults : (ℕ → Declarator) → Place → Specified → List ℕ → Node → List (Option Break)
 declaration_faults has at said declarators n =
-    fault_at 2 (storage_fault_of said at (list_any (is_function has) declarators))
+    fault_at 2 (storage_fault_of said at (declares_function has said declarators))
     ∷ fault 3 n.first (is_nothing declarators && not said.declares)
     ∷ fault_at 4 (inline_fault_of said at (declares_functions has said declarators))
     ∷ []

@@ -1,5 +1,5 @@
 -- What declarators declare: the type of each name, and of which declaration a declarator is (C11 6.7.6).
-use Rattle.std.specs.Prelude.{ℕ, List, [], ◌∷◌, Bool, true, false, Option, None, Some, drop, map, slice_get, slice_index_or, if◌then◌else◌}
+use Rattle.std.specs.Prelude.{ℕ, List, [], ◌∷◌, Bool, true, false, not, Option, None, Some, drop, map, nat_lt, slice_get, slice_index_or, if◌then◌else◌}
 use Rattle.std.specs.List.{flat_map}
 use Rattle.cr_syntax.specs.declared.node.Kind.{Kind}
 use Rattle.cr_syntax.specs.declared.node.Kind.TheVariants as kind
@@ -17,6 +17,8 @@ use Rattle.cr_check_declarators.specs.declared.declarator.Declarator.{Declarator
 use Rattle.cr_check_declarators.specs.declared.enumerators.Enumerated.{Enumerated}
 use Rattle.cr_check_declarators.specs.Declarators.{declared_type}
 use Rattle.cr_check_declarators.specs.Functions.{adjusted_type}
+use Rattle.cr_check_declarators.specs.Structures.{tag_agrees}
+use Rattle.cr_check_declarations.specs.declared.tree.Tag.{Tag}
 use Rattle.cr_check_declarations.specs.declared.tree.Tree.{Tree}
 use Rattle.cr_check_declarations.specs.Before.{Before, kind_in, parts_in, type_in}
 use Rattle.cr_check_declarations.specs.Specifiers.{specified_type}
@@ -80,15 +82,30 @@ type_by nodes b own derived (Some declaration) =
     adjusted_if (is_parameter (kind_in nodes (Some declaration)))
     (declared_type own derived (type_in b.named (specifiers_in nodes (Some declaration))))
 
+-- the content of the tag stands before node i
+abbrev pub is_listed : Option ℕ → ℕ → Bool
+is_listed None i = false
+is_listed (Some content) i = nat_lt content i
+
+-- K5: a tag isn't used as it is declared first
+abbrev pub tag_breaks : Kind → Option Kind → Bool → Bool
+tag_breaks k None listed = false
+tag_breaks k (Some first) listed = not (tag_agrees k first listed)
+
+abbrev pub is_misused : Kind → List Node → Option Tag → ℕ → Bool
+is_misused k nodes None i = false
+is_misused k nodes (Some tag) i = tag_breaks k (kind_in nodes (Some tag.first)) (is_listed tag.content i)
+
 -- the type that a node names by what it has itself: a type name and a parameter that of their declarator, and an initialised declarator
--- that of its declarator, which its initialiser may complete
+-- that of its declarator, which its initialiser may complete. Specifiers whose tag is misused name none.
 abbrev pub named_by : Kind → Tree → Specified → Declarator → Qualified → Before → ℕ → Node → Qualified
 named_by kind.TypeName t said own derived b i n = type_in b.named (slice_get n.parts 1)
 named_by kind.Parameter t said own derived b i n = type_in b.named (slice_get n.parts 1)
 named_by kind.InitDeclarator t said own derived b i n = type_in b.named (slice_get n.parts 0)
 named_by k t said own derived b i n =
     if is_declarator k then type_by t.nodes.now b own derived (declaration_of t.nodes.now t.above.now i)
-    else specified_type said k (slice_index_or t.tags.now i None) (slice_index_or t.visible.now i None) b i n
+    else (if is_misused k t.nodes.now (slice_index_or t.tags.now i None) i then unknown
+    else specified_type said k (slice_index_or t.tags.now i None) (slice_index_or t.visible.now i None) b i n)
 
 -- ---- what names stand for
 

@@ -8,21 +8,22 @@ ghost use Rattle.cr_check_expressions.specs.Breaks.{first_of};
 ghost use Rattle.cr_check_declarators.specs.Specifiers.{is_member, nothing};
 ghost use Rattle.cr_check_declarators.specs.Declarators.{name_alone, whole_elements, whole_object, is_object_of, cells_fault_of};
 ghost use Rattle.cr_check_declarations.specs.Before.{before_at, AreColumns, kind_in, first_in, type_in, specified_in};
-ghost use Rattle.cr_check_declarations.specs.Named.{class_of, declaration_of, specifiers_in, is_initialised};
-ghost use Rattle.cr_check_declarations.specs.Faults.{has_at, fault_at, token_if, place_of, is_specifier, are_specifiers, is_whole, is_lone, is_listed, tag_breaks, tag_fault, brace_before, specifier_faults};
-ghost use Rattle.cr_check_declarations.specs.Faults.{is_function, is_nothing, declares_functions, declaration_faults, is_incomplete, declarator_faults, whole_faults, may_have_initialiser, initialised_faults, enumerator_breaks};
+ghost use Rattle.cr_check_declarations.specs.Named.{class_of, declaration_of, specifiers_in, is_initialised, is_listed, tag_breaks};
+ghost use Rattle.cr_check_declarations.specs.Faults.{has_at, fault_at, token_if, place_of, is_specifier, are_specifiers, is_whole, is_lone, tag_fault, brace_before, specifier_faults};
+ghost use Rattle.cr_check_declarations.specs.Faults.{is_function, is_nothing, declares_function, declares_functions, declaration_faults, is_incomplete, declarator_faults, whole_faults, may_have_initialiser, initialised_faults, enumerator_breaks};
 ghost use Rattle.cr_check_declarations.specs.Faults.{name_or, name_token, other_faults, faults_in};
 
 use crate::before::{Columns, declarator_of, named_of, specified_of};
 use crate::declaration::{declaration_of, is_declarator, is_initialised, specifiers_in};
 use crate::definition::definition_fault;
 use crate::lists::rest;
+use crate::names::{is_listed, tag_breaks};
 use crate::ordinary::{class_of, is_typedef};
 use crate::tree::{Tag, Tree, above, around, first_of, kind_of, tag_of};
 use cr_check_declarators::{
     Class, Declarator, Enumerated, Linkage, Specified, cells_fault, function_fault,
     has_whole_elements, inline_fault, is_object, is_one_type, is_too_large, is_whole_object,
-    linkage_of, may_be_initialised, open_fault, storage_fault, tag_agrees, volatile_fault,
+    linkage_of, may_be_initialised, open_fault, storage_fault, volatile_fault,
 };
 use cr_check_enclosing::Place;
 use cr_check_expressions::{Break, break_if, lesser, part_at};
@@ -220,24 +221,6 @@ fn tag_fault(tree: &Tree, kind: Kind, at: u32, tag: Option<Tag>) -> Option<Break
     }
 }
 
-fn is_listed(content: Option<u32>, at: u32) -> bool
-    ensures { result ≡ is_listed content at }
-{
-    match content {
-        None => false,
-        Some(content) => content < at,
-    }
-}
-
-fn tag_breaks(kind: Kind, first: Option<Kind>, listed: bool) -> bool
-    ensures { result ≡ tag_breaks kind first listed }
-{
-    match first {
-        None => false,
-        Some(first) => !tag_agrees(kind, first, listed),
-    }
-}
-
 fn declaration_fault(
     columns: &Columns,
     place: Place,
@@ -247,12 +230,19 @@ fn declaration_fault(
 ) -> Option<Break>
     ensures { result ≡ first_of (declaration_faults (λ p. slice_index_or columns.now.declarators.now p name_alone) place said declarators.now node.now) }
 {
-    let some = has_function(columns, declarators);
+    let some = declares_function(columns, said, declarators);
     let storage = fault_at(2, storage_fault(said, place, some));
     let none = is_nothing(declarators);
     let nothing = break_if(3, node.first, none && !said.declares);
     let inline = inline_fault(said, place, declares_functions(columns, said, declarators));
     lesser(storage, lesser(nothing, fault_at(4, inline)))
+}
+
+// Whether some of what is declared is a function, and no type names.
+fn declares_function(columns: &Columns, said: Specified, declarators: &[u32]) -> bool
+    ensures { result ≡ declares_function (λ p. slice_index_or columns.now.declarators.now p name_alone) said declarators.now }
+{
+    !is_typedef(class_of(said.storage)) && has_function(columns, declarators)
 }
 
 // Whether all that is declared is functions, and no type names.

@@ -1,16 +1,17 @@
-ghost use Rattle.std.specs.Prelude.{◌≡◌, ◌<◌, ◌&&◌, ◌||◌, ℕ, None, IfOk, OnOk, fold, length, slice_get, slice_index_or, if◌then◌else◌};
+ghost use Rattle.std.specs.Prelude.{◌≡◌, ◌<◌, ◌&&◌, ◌||◌, ℕ, not, None, IfOk, OnOk, fold, length, slice_get, slice_index_or, if◌then◌else◌};
 ghost use Rattle.cr_check_types.specs.Types.{type_at, IsRow, Grows, unknown};
 ghost use Rattle.cr_check_declarators.specs.Specifiers.{nothing};
 ghost use Rattle.cr_check_declarators.specs.Functions.{adjusted_type};
 ghost use Rattle.cr_check_declarations.specs.Before.{before_at, AreColumns, type_in};
 ghost use Rattle.cr_check_declarations.specs.Specifiers.{structure_by, structure_of, content_of, was_negative, last_part, enumeration, given_by, is_given, given_in, given_of, specified_type};
-ghost use Rattle.cr_check_declarations.specs.Named.{is_declarator, type_by, named_by, is_parameter, adjusted_if, specifiers_in, declaration_of};
+ghost use Rattle.cr_check_declarations.specs.Named.{is_declarator, type_by, is_listed, tag_breaks, is_misused, named_by, is_parameter, adjusted_if, specifiers_in, declaration_of};
 
 use crate::before::{Columns, enumerated_of, named_of, specified_of};
 use crate::declaration::{declaration_of, is_declarator, is_parameter, specifiers_in};
 use crate::tree::{Tag, Tree, kind_of, tag_of, visible};
 use cr_check_declarators::{
     Base, Declarator, Enumerated, Specified, adjusted, declare, enumeration_kind, named_type,
+    tag_agrees,
 };
 use cr_check_expressions::part_at;
 use cr_check_types::{Shape, Table};
@@ -41,7 +42,40 @@ pub fn named(
         kind if is_declarator(kind) => {
             type_by(table, tree, columns, own, derived, declaration_of(tree, at))
         }
+        kind if is_misused(kind, tree.nodes, tag_of(tree, at), at) => Ok(0),
         _ => specified_type(table, tree, columns, said, at, node),
+    }
+}
+
+// Whether a specifier's tag isn't used as it is declared first.
+fn is_misused(kind: Kind, nodes: &[Node], tag: Option<Tag>, at: u32) -> bool
+    ensures { result ≡ is_misused kind nodes.now tag at }
+{
+    match tag {
+        None => false,
+        Some(tag) => tag_breaks(
+            kind,
+            kind_of(nodes, Some(tag.first)),
+            is_listed(tag.content, at),
+        ),
+    }
+}
+
+pub(crate) fn is_listed(content: Option<u32>, at: u32) -> bool
+    ensures { result ≡ is_listed content at }
+{
+    match content {
+        None => false,
+        Some(content) => content < at,
+    }
+}
+
+pub(crate) fn tag_breaks(kind: Kind, first: Option<Kind>, listed: bool) -> bool
+    ensures { result ≡ tag_breaks kind first listed }
+{
+    match first {
+        None => false,
+        Some(first) => !tag_agrees(kind, first, listed),
     }
 }
 

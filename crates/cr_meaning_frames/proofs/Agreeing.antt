@@ -1,6 +1,6 @@
 -- Two memories that agree: what is read of the one is read of the other.
 use Rattle.std.proofs.Common.{◌≡◌, refl, sym, ◌∙◌, ap, subst}
-use Rattle.std.specs.Prelude.{ℕ, zero, suc, ◌==◌, ℤ, Bool, true, false, not, ◌||◌, is_none, Option, Some, None, Result, Ok, Err, List, [], ◌∷◌, length, take, drop, slice_index_or, if◌then◌else◌}
+use Rattle.std.specs.Prelude.{ℕ, zero, suc, ◌==◌, ℤ, Bool, true, false, not, ◌&&◌, ◌||◌, is_none, Option, Some, None, Result, Ok, Err, List, [], ◌∷◌, length, take, drop, slice_index_or, if◌then◌else◌}
 use Rattle.cr_footprint.specs.Cell.{Cell as Place}
 use Rattle.cr_memory.specs.declared.value.Pointer.{Pointer}
 use Rattle.cr_memory.specs.declared.value.Pointer.TheVariants.{Null, At}
@@ -15,8 +15,8 @@ use Rattle.cr_memory.specs.declared.value.Trap.TheVariants.{Undefined, Left}
 use Rattle.cr_memory.specs.declared.value.TheConstants.{ENDED, NULL_OR_END, UNSET, OTHER_TYPE, END_COMPARED}
 use Rattle.cr_memory.specs.Kind.{is_same}
 use Rattle.cr_memory.specs.Memory.{Object, Memory, live_object, count_of, has_ended}
-use Rattle.cr_memory.specs.Access.{is_null_or_end, number_of, cell_of, some_object, cell_at, shape_at, cells_at, shape_run_at, holds_such, is_unset, have_kinds, reaching, reach_of, load_of, cells_of}
-use Rattle.cr_memory.specs.Pointers.{moved_by, shift_of, with_both, difference_of, differ_of, order_of, less_of, equality_by, same_of}
+use Rattle.cr_memory.specs.Access.{is_null_or_end, is_literal, number_of, cell_of, some_object, cell_at, shape_at, cells_at, shape_run_at, holds_such, is_unset, have_kinds, reaching, reach_of, load_of, cells_of}
+use Rattle.cr_memory.specs.Pointers.{moved_by, shift_of, with_both, difference_of, differ_of, order_of, less_of, is_in_literal, equality_by, same_of}
 use Rattle.cr_meaning.specs.World.{then_by}
 use Rattle.cr_meaning_frames.specs.Frame.{Lives, Agree}
 
@@ -185,18 +185,24 @@ module _ (cells : Place → Bool) (one other : Memory) (h : Agree cells one othe
   count_same : (number : ℕ) → Pointed number → count_of (live_object other number) ≡ count_of (live_object one number)
   count_same number k = ap (λ (o : Option Object). count_of o) k.there.lives ∙ (k.there.count ∙ sym (ap (λ (o : Option Object). count_of o) k.here))
 
-  -- the look-up of counts matters for two places of live objects alone
+  literal_same : (at : Pointer) → Pointed (number_of at) → is_in_literal (shape_at other) at ≡ is_in_literal (shape_at one) at
+  literal_same at k = ap (λ (own : Scalar × Guard). not (is_null_or_end at) && is_literal own.1) (shape_same at k)
+
+  -- the look-ups matter for two places of live objects alone
   same_equal : (left right : Pointer) → (has_ended one left || has_ended one right) ≡ false
-      → Same (equality_by (λ object. count_of (live_object one object)) left right) (equality_by (λ object. count_of (live_object other object)) left right)
+      → Same (equality_by (λ object. count_of (live_object one object)) (shape_at one) left right) (equality_by (λ object. count_of (live_object other object)) (shape_at other) left right)
   same_equal Null Null k = refl
   same_equal Null (At object cell low high stride) k = refl
   same_equal (At object cell low high stride) Null k = refl
   same_equal (At object cell low high stride) (At object' cell' low' high' stride') k =
       let l = pointed_by (live_object one object) object refl (left_false (is_none (live_object one object)) (is_none (live_object one object')) k) in
       let r = pointed_by (live_object one object') object' refl (right_false (is_none (live_object one object)) (is_none (live_object one object')) k) in
-      same_if (object == object') _ _ _ _ refl (same_unless _ _ (Left END_COMPARED) _ _
+      same_if (object == object') _ _ _ _ (same_self _) (same_unless _ _ (Left END_COMPARED) _ _
       (λ e. ap (λ x. (x == cell) || (count_of (live_object other object') == cell')) (count_same object l)
-      ∙ (ap (λ x. (count_of (live_object one object) == cell) || (x == cell')) (count_same object' r) ∙ e)) (λ e. refl))
+      ∙ (ap (λ x. (count_of (live_object one object) == cell) || (x == cell')) (count_same object' r) ∙ e))
+      (λ e. same_unless _ _ (Left END_COMPARED) _ _
+      (λ f. ap (λ x. x && is_in_literal (shape_at other) (At object' cell' low' high' stride')) (literal_same (At object cell low high stride) l)
+      ∙ (ap (λ x. is_in_literal (shape_at one) (At object cell low high stride) && x) (literal_same (At object' cell' low' high' stride') r) ∙ f)) (λ f. refl)))
 
   pub same_equality : (left right : Pointer) → Same (same_of one left right) (same_of other left right)
   same_equality left right = same_both left right _ _ (same_equal left right)

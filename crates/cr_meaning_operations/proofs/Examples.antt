@@ -148,7 +148,7 @@ abbrev file_extra_25_nodes : List Node
 file_extra_25_nodes = (node kind.Specifiers 0 0 ([]) ∷ node kind.NameDeclarator 1 1 ([]) ∷ node kind.FunctionDeclarator 1 3 (1 ∷ []) ∷ node kind.Specifiers 5 5 ([]) ∷ node kind.NameDeclarator 6 6 ([]) ∷ node kind.Integer 8 8 ([]) ∷ node kind.ArrayDeclarator 6 9 (4 ∷ 5 ∷ []) ∷ node kind.Integer 11 11 ([]) ∷ node kind.ArrayDeclarator 6 12 (6 ∷ 7 ∷ []) ∷ node kind.Declaration 5 13 (3 ∷ 8 ∷ []) ∷ node kind.Identifier 16 16 ([]) ∷ node kind.Integer 18 18 ([]) ∷ node kind.Subscript 16 19 (10 ∷ 11 ∷ []) ∷ node kind.Integer 21 21 ([]) ∷ node kind.Subscript 16 22 (12 ∷ 13 ∷ []) ∷ node kind.AddressOf 15 22 (14 ∷ []) ∷ node kind.Identifier 25 25 ([]) ∷ node kind.Integer 27 27 ([]) ∷ node kind.Subscript 25 28 (16 ∷ 17 ∷ []) ∷ node kind.Integer 30 30 ([]) ∷ node kind.Subscript 25 31 (18 ∷ 19 ∷ []) ∷ node kind.AddressOf 24 31 (20 ∷ []) ∷ node kind.Equal 15 31 (15 ∷ 21 ∷ []) ∷ node kind.Return 14 32 (22 ∷ []) ∷ node kind.Compound 4 33 (9 ∷ 23 ∷ []) ∷ node kind.FunctionDefinition 0 33 (0 ∷ 2 ∷ 24 ∷ []) ∷ [])
 
 file_extra_25 :
-    verdict (1 ∷ 1 ∷ 1 ∷ 1 ∷ 1 ∷ 1 ∷ 1 ∷ 1 ∷ 1 ∷ 1 ∷ 1 ∷ 1 ∷ 1 ∷ 1 ∷ 1 ∷ 1 ∷ 1 ∷ 1 ∷ 1 ∷ 1 ∷ 1 ∷ 1 ∷ 1 ∷ 1 ∷ 1 ∷ 1 ∷ []) (program_of (typed file_extra_25_tokens file_extra_25_nodes (record { file = codes "int main(){int a[2][3];return &a[0][3]==&a[1][0];}"; shapes = (shape Unknown false false ∷ shape (ctype.Int ints.Int) false false ∷ shape (Array 1 3) false false ∷ shape (Array 2 2) false false ∷ shape (Pointer 1) false false ∷ shape (Function 25) false false ∷ []); types = column 26 0 ((5, 1) ∷ (7, 1) ∷ (10, 3) ∷ (11, 1) ∷ (12, 2) ∷ (13, 1) ∷ (14, 1) ∷ (15, 4) ∷ (16, 3) ∷ (17, 1) ∷ (18, 2) ∷ (19, 1) ∷ (20, 1) ∷ (21, 4) ∷ (22, 1) ∷ []); refs = column 26 None ((1, (Some (1))) ∷ (4, (Some (4))) ∷ (10, (Some (4))) ∷ (16, (Some (4))) ∷ []); valued = column 26 false ((10, true) ∷ (12, true) ∷ (16, true) ∷ (18, true) ∷ []); named = column 26 0 ((1, 5) ∷ (4, 3) ∷ (23, 1) ∷ []); durations = column 26 duration.NoObject ((4, duration.Automatic) ∷ []); constants = column 26 None ((5, (Some (pos 2))) ∷ (7, (Some (pos 3))) ∷ (11, (Some (pos 0))) ∷ (13, (Some (pos 3))) ∷ (17, (Some (pos 1))) ∷ (19, (Some (pos 0))) ∷ []); layouts = column 26 NOTHING []; members = column 26 [] []; chosen = column 26 0 []; parameters = column 26 [] ((0, ([])) ∷ (1, ([])) ∷ (2, ([])) ∷ (3, ([])) ∷ (4, ([])) ∷ (5, ([])) ∷ (6, ([])) ∷ (7, ([])) ∷ (8, ([])) ∷ (9, ([])) ∷ (10, ([])) ∷ (11, ([])) ∷ (12, ([])) ∷ (13, ([])) ∷ (14, ([])) ∷ (15, ([])) ∷ (16, ([])) ∷ (17, ([])) ∷ (18, ([])) ∷ (19, ([])) ∷ (20, ([])) ∷ (21, ([])) ∷ (22, ([])) ∷ (23, ([])) ∷ (24, ([])) ∷ (25, ([])) ∷ []); plans = column 26 [] []; texts = column 26 [] ((0, ([])) ∷ (1, ([])) ∷ (2, ([])) ∷ (3, ([])) ∷ (4, ([])) ∷ (5, ([])) ∷ (6, ([])) ∷ (7, ([])) ∷ (8, ([])) ∷ (9, ([])) ∷ (10, ([])) ∷ (11, ([])) ∷ (12, ([])) ∷ (13, ([])) ∷ (14, ([])) ∷ (15, ([])) ∷ (16, ([])) ∷ (17, ([])) ∷ (18, ([])) ∷ (19, ([])) ∷ (20, ([])) ∷ (21, ([])) ∷ (22, ([])) ∷ (23, ([])) ∷ (24, ([])) ∷ (25, ([])) ∷ []); main = 25 })) (record { steps = 3000; depth = 256; cells = 1048576; output = 65536 })) ≡ fine 1 []
+    verdict (1 ∷ 1 ∷ 1 ∷ 1 ∷ 1 ∷ 1 ∷ 1 ∷ 1 ∷ 1 ∷ 1 ∷ 1 ∷ 1 ∷ 1 ∷ 1 ∷ 1 ∷ 1 ∷ 1 ∷ 1 ∷ 1 ∷ 1 ∷ 1 ∷ 1 ∷ 1 ∷ 1 ∷ 1 ∷ 1 ∷ []) (program_of (typed file_extra_25_tokens file_extra_25_nodes (record { file = codes "int main(){int a[2][3];return &a[0][3]==&a[1][0];}"; shapes = (shape Unknown false false ∷ shape (ctype.Int ints.Int) false false ∷ shape (Array 1 3) false false ∷ shape (Array 2 2) false false ∷ shape (Pointer 1) false false ∷ shape (Function 25) false false ∷ []); types = column 26 0 ((5, 1) ∷ (7, 1) ∷ (10, 3) ∷ (11, 1) ∷ (12, 2) ∷ (13, 1) ∷ (14, 1) ∷ (15, 4) ∷ (16, 3) ∷ (17, 1) ∷ (18, 2) ∷ (19, 1) ∷ (20, 1) ∷ (21, 4) ∷ (22, 1) ∷ []); refs = column 26 None ((1, (Some (1))) ∷ (4, (Some (4))) ∷ (10, (Some (4))) ∷ (16, (Some (4))) ∷ []); valued = column 26 false ((10, true) ∷ (12, true) ∷ (16, true) ∷ (18, true) ∷ []); named = column 26 0 ((1, 5) ∷ (4, 3) ∷ (23, 1) ∷ []); durations = column 26 duration.NoObject ((4, duration.Automatic) ∷ []); constants = column 26 None ((5, (Some (pos 2))) ∷ (7, (Some (pos 3))) ∷ (11, (Some (pos 0))) ∷ (13, (Some (pos 3))) ∷ (17, (Some (pos 1))) ∷ (19, (Some (pos 0))) ∷ []); layouts = column 26 NOTHING []; members = column 26 [] []; chosen = column 26 0 []; parameters = column 26 [] ((0, ([])) ∷ (1, ([])) ∷ (2, ([])) ∷ (3, ([])) ∷ (4, ([])) ∷ (5, ([])) ∷ (6, ([])) ∷ (7, ([])) ∷ (8, ([])) ∷ (9, ([])) ∷ (10, ([])) ∷ (11, ([])) ∷ (12, ([])) ∷ (13, ([])) ∷ (14, ([])) ∷ (15, ([])) ∷ (16, ([])) ∷ (17, ([])) ∷ (18, ([])) ∷ (19, ([])) ∷ (20, ([])) ∷ (21, ([])) ∷ (22, ([])) ∷ (23, ([])) ∷ (24, ([])) ∷ (25, ([])) ∷ []); plans = column 26 [] []; texts = column 26 [] ((0, ([])) ∷ (1, ([])) ∷ (2, ([])) ∷ (3, ([])) ∷ (4, ([])) ∷ (5, ([])) ∷ (6, ([])) ∷ (7, ([])) ∷ (8, ([])) ∷ (9, ([])) ∷ (10, ([])) ∷ (11, ([])) ∷ (12, ([])) ∷ (13, ([])) ∷ (14, ([])) ∷ (15, ([])) ∷ (16, ([])) ∷ (17, ([])) ∷ (18, ([])) ∷ (19, ([])) ∷ (20, ([])) ∷ (21, ([])) ∷ (22, ([])) ∷ (23, ([])) ∷ (24, ([])) ∷ (25, ([])) ∷ []); main = 25 })) (record { steps = 3000; depth = 256; cells = 1048576; output = 65536 })) ≡ left 6 1
 unfolding body played pieces_of types_of type_at
 file_extra_25 = refl
 

@@ -1,9 +1,10 @@
 -- Operations on pointers, on the spans and on the memory.
-use Rattle.std.proofs.Common.{◌≡◌, ℕ, suc, ◌+◌, ◌-◌, ◌*◌, ◌%◌, ◌≤◌, ◌==◌, nat_le, Bool, true, false, ◌&&◌, ◌||◌, ℤ, pos, negsuc, ◌+ℤ◌, ◌*ℤ◌, Result, Ok, Err, IfOk, List, length, if◌then◌else◌, refl, sym, ap, ◌∙◌, arith}
+use Rattle.std.proofs.Common.{◌≡◌, ℕ, suc, ◌+◌, ◌-◌, ◌*◌, ◌%◌, ◌≤◌, ◌==◌, nat_le, Bool, true, false, not, ◌&&◌, ◌||◌, ℤ, pos, negsuc, ◌+ℤ◌, ◌*ℤ◌, Result, Ok, Err, IfOk, List, length, if◌then◌else◌, refl, sym, ap, ◌∙◌, arith}
 use Rattle.std.specs.Prelude.{int_le, unsigned_abs}
 use Rattle.std.proofs.Math.Nat.{add-mul-mod_self_right}
 use Rattle.std.proofs.lemmas.Bool.{leb-true}
 use Rattle.std.proofs.lemmas.Int.{ints}
+use Rattle.cr_memory.specs.declared.value.Element.{Element}
 use Rattle.cr_memory.specs.declared.value.Pointer.{Pointer}
 use Rattle.cr_memory.specs.declared.value.Pointer.TheVariants.{Null, At}
 use Rattle.cr_memory.specs.declared.value.Scalar.{Scalar}
@@ -14,10 +15,11 @@ use Rattle.cr_memory.specs.declared.value.Trap.TheVariants.{Undefined, Left}
 use Rattle.cr_memory.specs.declared.value.TheConstants.{ENDED, SUM_OUTSIDE, END_COMPARED}
 use Rattle.cr_memory.specs.declared.span.Span.{Span}
 use Rattle.cr_memory.specs.Memory.{IsPointer, live_object, count_of, has_ended}
-use Rattle.cr_memory.specs.Pointers.{moved_by, shift_by, shift_of, with_both, equality_by}
-use Rattle.cr_memory.specs.Flat.{span_at, memory_of, ended_in, PlaceIn, PointerIn, HasRoom, flat_equality}
+use Rattle.cr_memory.specs.Pointers.{moved_by, shift_by, shift_of, with_both, is_in_literal, equality_by}
+use Rattle.cr_memory.specs.Access.{is_null_or_end, is_literal, shape_at}
+use Rattle.cr_memory.specs.Flat.{span_at, memory_of, ended_in, own_in, PlaceIn, PointerIn, HasRoom, flat_equality}
 use Rattle.cr_memory.proofs.View.{object_of-live, length-whole_of, live_object-memory_of, has_ended-memory_of, is_pointer}
-use Rattle.cr_memory.proofs.Reaching.{alive_from}
+use Rattle.cr_memory.proofs.Reaching.{Reached, reached, alive_from}
 
 -- ---- a first case, and the rest where it doesn't hold
 
@@ -56,16 +58,29 @@ live_count most spans cells shape number room alive =
     ap count_of (live_object-memory_of most spans cells shape number ∙ object_of-live cells shape (span_at spans number) alive)
     ∙ length-whole_of cells shape (span_at spans number) (room.within number alive)
 
+guarded : (b x y : Bool) → (b ≡ false → x ≡ y) → (not b && x) ≡ (not b && y)
+guarded true x y k = refl
+guarded false x y k = k refl
+
+literal-is : (most : ℕ) (spans : List Span) (cells : List Cell) (shape : List (Scalar × Guard)) (at : Pointer) → HasRoom spans (length cells)
+    → PointerIn spans at → ended_in spans at ≡ false → is_in_literal (own_in spans shape) at ≡ is_in_literal (shape_at (memory_of most spans cells shape)) at
+literal-is most spans cells shape at room h live =
+    guarded (is_null_or_end at) _ _ (λ inside. ap (λ own. is_literal own.1) (sym (reached most spans cells shape at room h live inside).own))
+
 pub flat_equality-is : (most : ℕ) (spans : List Span) (cells : List Cell) (shape : List (Scalar × Guard)) (left right : Pointer) → HasRoom spans (length cells)
-    → ended_in spans left ≡ false → ended_in spans right ≡ false
-    → flat_equality spans left right ≡ equality_by (λ object. count_of (live_object (memory_of most spans cells shape) object)) left right
-flat_equality-is most spans cells shape Null Null room l r = refl
-flat_equality-is most spans cells shape Null (At object cell low high stride) room l r = refl
-flat_equality-is most spans cells shape (At object cell low high stride) Null room l r = refl
-flat_equality-is most spans cells shape (At object cell low high stride) (At object' cell' low' high' stride') room l r =
-    let same : Bool → Bool → Result Bool Trap = λ a b. if object == object' then Ok (cell == cell') else (if a || b then Err (Left END_COMPARED) else Ok false) in
-    ap (λ n. same (n == cell) ((span_at spans object').count == cell')) (sym (live_count most spans cells shape object room (alive_from _ l)))
-    ∙ ap (λ n. same (count_of (live_object (memory_of most spans cells shape) object) == cell) (n == cell')) (sym (live_count most spans cells shape object' room (alive_from _ r)))
+    → PointerIn spans left → PointerIn spans right → ended_in spans left ≡ false → ended_in spans right ≡ false
+    → flat_equality spans shape left right
+    ≡ equality_by (λ object. count_of (live_object (memory_of most spans cells shape) object)) (shape_at (memory_of most spans cells shape)) left right
+flat_equality-is most spans cells shape Null Null room p q l r = refl
+flat_equality-is most spans cells shape Null (At object cell low high stride) room p q l r = refl
+flat_equality-is most spans cells shape (At object cell low high stride) Null room p q l r = refl
+flat_equality-is most spans cells shape (At object cell low high stride) (At object' cell' low' high' stride') room p q l r =
+    rw (
+      live_count most spans cells shape object room (alive_from _ l),
+      live_count most spans cells shape object' room (alive_from _ r),
+      literal-is most spans cells shape (At object cell low high stride) room p l,
+      literal-is most spans cells shape (At object' cell' low' high' stride') room q r,
+    ) refl
 
 -- ---- a moved pointer stays among whole elements
 
@@ -93,16 +108,16 @@ moved_place spans object cell low high stride n (negsuc k) h e below above = rec
   whole_after = same_rest (high - n) (high - cell) (suc k) stride (omega (arith, ints, e, h.high_after)) ∙ h.whole_after;
 }
 
-moved_by_test : (spans : List Span) (object cell low high stride n : ℕ) (by : ℤ) (a b : Bool) → PlaceIn spans object cell low high stride
-    → pos n ≡ pos cell +ℤ by *ℤ pos stride → nat_le low n ≡ a → nat_le n high ≡ b
+moved_by_test : (spans : List Span) (object cell low high : ℕ) (stride : Element) (n : ℕ) (by : ℤ) (a b : Bool) → PlaceIn spans object cell low high stride.cells
+    → pos n ≡ pos cell +ℤ by *ℤ pos stride.cells → nat_le low n ≡ a → nat_le n high ≡ b
     → IfOk (if a && b then Ok (At object n low high stride) else Err (Undefined SUM_OUTSIDE)) (PointerIn spans)
 moved_by_test spans object cell low high stride n by true true h e below above =
-    moved_place spans object cell low high stride n by h e (leb-true low n below) (leb-true n high above)
+    moved_place spans object cell low high stride.cells n by h e (leb-true low n below) (leb-true n high above)
 moved_by_test spans object cell low high stride n by true false h e below above = tt
 moved_by_test spans object cell low high stride n by false b h e below above = tt
 
-moved_to : (spans : List Span) (object cell low high stride : ℕ) (by z : ℤ) → PlaceIn spans object cell low high stride
-    → z ≡ pos cell +ℤ by *ℤ pos stride
+moved_to : (spans : List Span) (object cell low high : ℕ) (stride : Element) (by z : ℤ) → PlaceIn spans object cell low high stride.cells
+    → z ≡ pos cell +ℤ by *ℤ pos stride.cells
     → IfOk (if int_le (pos low) z && int_le z (pos high) then Ok (At object (unsigned_abs z) low high stride) else Err (Undefined SUM_OUTSIDE)) (PointerIn spans)
 moved_to spans object cell low high stride by (pos n) h e = moved_by_test spans object cell low high stride n by _ _ h e refl refl
 moved_to spans object cell low high stride by (negsuc n) h e = tt

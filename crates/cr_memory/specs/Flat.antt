@@ -60,7 +60,7 @@ pub record PlaceIn (spans : List Span) (object cell low high stride : ℕ) : Typ
 
 abbrev pub PointerIn : List Span → Pointer → Type 0
 PointerIn spans Null = Unit {0}
-PointerIn spans (At object cell low high stride) = PlaceIn spans object cell low high stride
+PointerIn spans (At object cell low high stride) = PlaceIn spans object cell low high stride.cells
 
 -- what a cell of a kind may hold
 abbrev pub HoldsIn : List Span → Scalar → Cell → Type 0
@@ -73,7 +73,7 @@ HoldsIn spans (PointerKind to) (PointerCell pointer) = PointerIn spans pointer
 -- a pointer that isn't null stands at or after the beginning of its array, and its elements have cells
 abbrev pub HasSubscript : Pointer → Type 0
 HasSubscript Null = Unit {0}
-HasSubscript (At object cell low high stride) = (low ≤ cell) × (1 ≤ stride)
+HasSubscript (At object cell low high stride) = (low ≤ cell) × (1 ≤ stride.cells)
 
 -- each live span lies among so many cells
 pub record HasRoom (spans : List Span) (room : ℕ) : Type 0 where
@@ -156,8 +156,8 @@ flat_copy spans cells shape from to count =
 abbrev pub flat_cells : List Span → List Cell → List (Scalar × Guard) → Pointer → List Scalar → Result (List Cell) Trap
 flat_cells spans cells shape = cells_by (ended_in spans) (run_in spans cells) (run_in spans shape)
 
-abbrev pub flat_equality : List Span → Pointer → Pointer → Result Bool Trap
-flat_equality spans = equality_by (λ object. (span_at spans object).count)
+abbrev pub flat_equality : List Span → List (Scalar × Guard) → Pointer → Pointer → Result Bool Trap
+flat_equality spans shape = equality_by (λ object. (span_at spans object).count) (own_in spans shape)
 
 -- the items begin with others
 abbrev pub BeginsWith : {X : Type 0} → List X → List X → Type 0

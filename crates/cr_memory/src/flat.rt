@@ -3,7 +3,8 @@ ghost use Rattle.std.specs.List.{list_any};
 ghost use Rattle.cr_sequence.specs.Stretches.{filled};
 ghost use Rattle.cr_memory.specs.Kind.{is_same};
 ghost use Rattle.cr_memory.specs.Access.{is_null_or_end, is_unset, is_literal, is_constant, have_kinds, have_same_kinds, overwritten, reaching, reach_by, Writes, Reads, HasStride};
-ghost use Rattle.cr_memory.specs.Flat.{span_at, ended_in, held_ended_in, index_of, PlaceIn, PointerIn, HoldsIn, HasRoom, cell_or, shape_or, flat_load, flat_save, flat_put, flat_copy, flat_cells};
+ghost use Rattle.cr_memory.specs.Pointers.{is_in_literal};
+ghost use Rattle.cr_memory.specs.Flat.{span_at, ended_in, held_ended_in, index_of, own_in, PlaceIn, PointerIn, HoldsIn, HasRoom, cell_or, shape_or, flat_load, flat_save, flat_put, flat_copy, flat_cells};
 
 use crate::spans::Spans;
 use crate::value::{
@@ -93,6 +94,25 @@ fn index(spans: &Spans, cells: &Sequence<Cell>, at: Pointer) -> Result<usize, Tr
         Ok(place_in(cells.len(), span.first, cell as usize))
     } else {
         Err(Trap::Undefined(NULL_OR_END))
+    }
+}
+
+/// Whether a pointer into a live object points to a char of a string literal.
+pub(crate) fn is_in_literal(
+    spans: &Spans,
+    cells: &Sequence<Cell>,
+    shape: &Sequence<(Scalar, Guard)>,
+    at: Pointer,
+) -> bool
+    requires within { PointerIn spans.now at }
+    requires live { ended_in spans.now at ≡ false }
+    requires room { HasRoom spans.now (length cells.now) }
+    requires same_length { length shape.now ≡ length cells.now }
+    ensures { result ≡ is_in_literal (own_in spans.now shape.now) at }
+{
+    match index(spans, cells, at) {
+        Ok(index) => is_literal(own_at(shape, index)),
+        Err(_) => false,
     }
 }
 
@@ -517,8 +537,8 @@ pub(crate) fn is_pointer(spans: &Spans, at: Pointer) -> bool
             cell,
             low,
             high,
-            stride,
-        } => is_array_place(spans, object, cell, low, high, stride),
+            element,
+        } => is_array_place(spans, object, cell, low, high, element.cells),
     }
 }
 

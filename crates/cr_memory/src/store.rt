@@ -111,7 +111,7 @@ impl Store {
         requires right { IsPointer self.now right }
         ensures { result ≡ same_of self.now left right }
     {
-        arithmetic::same(&self.spans, left, right)
+        arithmetic::same(&self.spans, &self.cells, &self.shape, left, right)
     }
 
     /// Stores a value in a scalar object (6.5.16p3): U9, U10, U13, U14, N5.

@@ -449,6 +449,20 @@ type 40 1¦long main(){}
 type 40 1¦void main(){}
 "#;
 
+// Files with several faults, or with one whose place is easily mistaken, on one token a line: the first fault is put.
+const FIRST_FAULTS: &str = r#"
+type 5 2¦enum\ne\n;\nint\nmain\n(\n)\n{\n}
+type 5 13¦enum\nt\n{\nA\n}\n;\nint\nx\n=\nsizeof\n(\nstruct\nt\n)\n;\nint\nmain\n(\n)\n{\n}
+type 5 16¦struct\nt\n{\nint\na\n;\n}\n;\nint\nmain\n(\n)\n{\n(\nenum\nt\n)\n1\n;\n}
+type 7 3¦struct\nk\n{\nchar\na\n[\n1048576\n]\n;\nint\nb\n;\nlong\nchar\nc\n;\n}\n;\nint\nmain\n(\n)\n{\n}
+type 7 3¦struct\nk\n{\nchar\na\n[\n1048576\n]\n;\nint\nb\n;\nvoid\nc\n;\n}\n;\nint\nmain\n(\n)\n{\n}
+type 9 5¦int\nc\n;\nint\nc\n(\nvoid\n(\n*\n)\n[\n2\n]\n)\n;\nint\nmain\n(\n)\n{\n}
+type 2 7¦int\nmain\n(\n)\n{\nstatic\ntypedef\nint\nf\n(\nint\n)\n;\n}
+type 8 4¦int\n(\n*\np\n)\n(\nenum\nT\n)\n;\nint\nmain\n(\n)\n{\n}
+type 8 5¦struct\nn\n{\nint\na\n(\nenum\nT\n)\n;\n}\n;\nint\nmain\n(\n)\n{\n}
+type 9 3¦int\n*\nabort\n(\nint\na\n(\nint\n)\n)\n;\nint\nmain\n(\n)\n{\n}
+"#;
+
 // Notes a row whose file comes to something else.
 fn try_row(alloc: Global, wrong: &mut String, row: &str) -> Result<(), AllocError> {
     let Some((wanted, text)) = row.split_once('¦') else {
@@ -467,6 +481,15 @@ fn try_row(alloc: Global, wrong: &mut String, row: &str) -> Result<(), AllocErro
 fn files_are_typed_or_refused(rt: HostRuntime) -> Result<(), Fail> {
     let mut wrong = String::new(rt.alloc());
     for row in RULINGS.lines().chain(DEFINITIONS.lines()) {
+        try_row(rt.alloc(), &mut wrong, row)?;
+    }
+    none_of(wrong)
+}
+
+#[test]
+fn the_first_fault_is_put(rt: HostRuntime) -> Result<(), Fail> {
+    let mut wrong = String::new(rt.alloc());
+    for row in FIRST_FAULTS.lines() {
         try_row(rt.alloc(), &mut wrong, row)?;
     }
     none_of(wrong)

@@ -61,6 +61,15 @@ the test says no to t.c¦inline int f(void) { return 0; } int main(void) { retur
 the test says no to t.c¦enum e { A } x; enum f { B } *p = &x; int main(void) { return 0; }
 the test says no to t.c¦int main(void) { register int a[2] = { 1 }; return a[0]; }
 the test says no to t.c¦int main(void) { int i = 1; i += (i = 1, 2); return i; }
+the test says no to t.c¦typedef int T; int f(int (T)) { return 0; } int main(void) { return 0; }
+the test says no to t.c¦int abs(int a) { return a; } int main(void) { return abs(-1); }
+the test says no to t.c¦static int putchar(int); int main(void) { putchar(65); return 0; }
+the test says no to t.c¦int x = {{1}}; int main(void) { return 0; }
+the test says no to t.c¦int f(void, int); int main(void) { return 0; }
+the test says no to t.c¦int main(void) { char c[8]; int *p = (int *)(c + 1); return p == 0; }
+the test says no to t.c¦extern int b[]; int (*q)[] = &b; int a[2], (*p)[2] = &a, b[3]; int main(void) { return *(int (**)[3])&p == 0; }
+the test says no to t.c¦#pragma x \\␊int y; int main(void) { return y; }
+the test says no to t.c¦#pragma pack(1)␊int main(void) { return 0; }
 t.c:1: not in the subset: type 10¦typedef void V; int f(V) { return 0; } int main(void) { return 0; }
 t.c:1: not in the subset: type 19¦struct s { int a[2]; } x, y; int main(void) { (x = y).a[0]; return 0; }
 t.c:1: not in the subset: type 24¦struct s { int a[2]; } x, y; int main(void) { *(x = y).a; return 0; }

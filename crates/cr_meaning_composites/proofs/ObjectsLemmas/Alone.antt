@@ -1,7 +1,6 @@
 -- An object of a declaration has linkage and static duration, or no linkage (C11 6.2.2p3 to p6, 6.2.4p3).
 use Rattle.std.proofs.Common.{◌≡◌, ℕ, suc, ◌+◌, ◌<◌, ◌==◌, ◌&&◌, not, Bool, true, false, List, [], ◌∷◌, Option, None, Some, length, drop, slice_get, slice_index_or, ◌⊎◌, inl, inr, refl, sym, subst, ap, ◌∙◌, arith, if◌then◌else◌}
 use Rattle.std.specs.Prelude.{fold}
-use Rattle.std.specs.List.{list_any}
 use Rattle.std.specs.Option.{is_some}
 use Rattle.std.proofs.lemmas.Bool.{cases_lt, false≢true, ne_eqb}
 use Rattle.std.proofs.lemmas.Option.{slice_get_within}
@@ -50,7 +49,7 @@ use Rattle.cr_check_declarations.specs.declared.tree.Tree.{Tree}
 use Rattle.cr_check_declarations.specs.Before.{kind_if, parts_if, Before, specified_in}
 use Rattle.cr_check_declarations.specs.Specifiers.{declares_by, are_specifiers, joined_in}
 use Rattle.cr_check_declarations.specs.Named.{class_of, is_typedef, value_by, specifiers_in, declaration_of, declares_name, declared_by, ordinary_of, ordinary_by, names_ordinary}
-use Rattle.cr_check_declarations.specs.Faults.{has_at, fault_at, place_of, is_function, is_nothing, declares_functions, faults_in}
+use Rattle.cr_check_declarations.specs.Faults.{has_at, fault_at, place_of, is_nothing, declares_function, declares_functions, faults_in}
 use Rattle.cr_check_expressions.specs.Breaks.{fault}
 use Rattle.cr_check_initialised.specs.Durations.{is_kept, is_static}
 use Rattle.cr_check_linkage.specs.Linked.{linkage_in, linked_in, linkage_by}
@@ -456,7 +455,7 @@ module _ (file : List ℕ) (t : Typed) (it : IsUnitOfFile file t) (shaped : IsSh
       early_said = specified_in early.specified (slice_get m.parts 0)
 
       abbrev functions : Bool
-      functions = list_any (is_function early.declarator) (drop 1 m.parts)
+      functions = declares_function early.declarator early_said (drop 1 m.parts)
 
       -- K2: one storage class at the most, which may stand there
       none : is_some (storage_by (place_of tree i) functions (said w.specifiers).storage) ≡ false

@@ -32,7 +32,7 @@ use Rattle.cr_check_declarations.specs.declared.tree.Tree.{Tree}
 use Rattle.cr_check_declarations.specs.declared.tree.Tag.{Tag}
 use Rattle.cr_check_declarations.specs.Before.{Before, kind_in, type_in}
 use Rattle.cr_check_declarations.specs.Specifiers.{structure_by, structure_of, content_of, is_given, given_by, given_of, specified_type}
-use Rattle.cr_check_declarations.specs.Named.{is_declarator, is_parameter, is_typedef, adjusted_if, type_by, named_by, value_by, declared_as, names_ordinary, declares_name, ordinary_by, constant_by, named_declared, declared_by, declaration_of, specifiers_in, class_of, parameters_by}
+use Rattle.cr_check_declarations.specs.Named.{is_declarator, is_parameter, is_typedef, adjusted_if, type_by, is_misused, named_by, value_by, declared_as, names_ordinary, declares_name, ordinary_by, constant_by, named_declared, declared_by, declaration_of, specifiers_in, class_of, parameters_by}
 use Rattle.cr_check_initialisers.specs.Places.{sized}
 use Rattle.cr_check_initialised.specs.Initialised.{Planned, object_of, named_first, is_planned, planned_if, planned_in, planned_by, IsFilled}
 use Rattle.cr_check_initialisers.specs.Known.{Known}
@@ -274,9 +274,11 @@ module _ (shapes : List Shape) where
     own_free kind.Parameter said own derived = type_free (slice_get n.parts 1)
     own_free kind.InitDeclarator said own derived = type_free (slice_get n.parts 0)
     own_free k said own derived =
-        either (is_declarator k) (type_by u.nodes.now (before_in shapes t) own derived (declaration_of u.nodes.now u.above.now i))
-        (specified_type said k (slice_index_or u.tags.now i None) (slice_index_or u.visible.now i None) (before_in shapes t) i n)
-        (by_declaration own derived (declaration_of u.nodes.now u.above.now i)) (specified_free said k (slice_index_or u.tags.now i None) (slice_index_or u.visible.now i None))
+        let named = specified_type said k (slice_index_or u.tags.now i None) (slice_index_or u.visible.now i None) (before_in shapes t) i n in
+        let misused = is_misused k u.nodes.now (slice_index_or u.tags.now i None) i in
+        either (is_declarator k) (type_by u.nodes.now (before_in shapes t) own derived (declaration_of u.nodes.now u.above.now i)) (if misused then unknown else named)
+        (by_declaration own derived (declaration_of u.nodes.now u.above.now i))
+        (either misused unknown named refl (specified_free said k (slice_index_or u.tags.now i None) (slice_index_or u.visible.now i None)))
 
     -- ---- by other declarations of the name
 

@@ -1,7 +1,6 @@
 -- An object of automatic duration is declared once: its identifier is the first declaration of its entity (C11 6.2.2p6, 6.2.4p5, 6.7p3).
 use Rattle.std.proofs.Common.{◌≡◌, ℕ, zero, suc, ◌+◌, ◌<◌, ◌≤◌, ◌==◌, Bool, true, false, not, List, [], ◌∷◌, Option, None, Some, length, drop, slice_get, slice_index_or, ◌⊎◌, inl, inr, refl, sym, ap, subst, ◌∙◌, arith}
 use Rattle.std.specs.Prelude.{ℤ, fold, nat_lt, if◌then◌else◌}
-use Rattle.std.specs.List.{list_any}
 use Rattle.std.specs.Option.{is_some}
 use Rattle.std.proofs.lemmas.Bool.{cases_lt, false≢true, both_ways, lt-ltb, ltb-true, eqb-true, eq-eqb, ne_eqb}
 use Rattle.std.proofs.lemmas.List.{get_or-take, get_or_past}
@@ -67,7 +66,7 @@ use Rattle.cr_check_declarations.specs.declared.tree.Tag.{Tag}
 use Rattle.cr_check_declarations.specs.Specifiers.{declares_by, are_specifiers, joined_in}
 use Rattle.cr_check_declarations.specs.Declarators.{size_in, bracket_before, inner_derived, derived_by, declarator_by}
 use Rattle.cr_check_declarations.specs.Named.{is_declaration as is_declaration_kind, is_initialised, above_in, declaration_at, declaration_of, specifiers_in, class_of, is_typedef, value_by, declared_as, names_ordinary, ordinary_by, declares_name, constant_by, declared_by}
-use Rattle.cr_check_declarations.specs.Faults.{has_at, fault_at, place_of, is_function, name_or, name_in, faults_in}
+use Rattle.cr_check_declarations.specs.Faults.{has_at, fault_at, place_of, declares_function, name_or, name_in, faults_in}
 use Rattle.cr_check_expressions.specs.Breaks.{fault, IsAmong}
 use Rattle.cr_check_unit.specs.Breaks.{IsNodeBreak}
 use Rattle.cr_check_initialised.specs.Durations.{is_kept_class, is_kept, is_static}
@@ -617,7 +616,7 @@ module _ (file : List ℕ) (t : Typed) (it : IsUnitOfFile file t) where
   own_said i m = specified_in (before_in shapes (cut i typing)).specified (slice_get m.parts 0)
 
   abbrev any_function : ℕ → Node → Bool
-  any_function i m = list_any (is_function (before_in shapes (cut i typing)).declarator) (drop 1 m.parts)
+  any_function i m = declares_function (before_in shapes (cut i typing)).declarator (own_said i m) (drop 1 m.parts)
 
   abbrev second_declarator : ℕ → Node → Declarator
   second_declarator i m = declarator_in (before_in shapes (cut i typing)).declarator (slice_get m.parts 1)

@@ -31,7 +31,7 @@ use Rattle.cr_check_declarations.specs.declared.tree.Tag.{Tag}
 use Rattle.cr_check_declarations.specs.declared.tree.Tree.{Tree}
 use Rattle.cr_check_declarations.specs.Before.{Before, kind_in, type_in}
 use Rattle.cr_check_declarations.specs.Specifiers.{structure_by, structure_of, content_of, is_given, given_of, specified_type}
-use Rattle.cr_check_declarations.specs.Named.{is_declarator, is_typedef, is_parameter, class_of, declaration_of, specifiers_in, type_by, named_by, value_by, ordinary_by, ordinary_of, names_ordinary, constant_by, declares_name, declared_by as declares_by}
+use Rattle.cr_check_declarations.specs.Named.{is_declarator, is_typedef, is_parameter, class_of, declaration_of, specifiers_in, type_by, is_misused, named_by, value_by, ordinary_by, ordinary_of, names_ordinary, constant_by, declares_name, declared_by as declares_by}
 use Rattle.cr_check_initialisers.specs.Known.{cells_of}
 use Rattle.cr_check_linkage.specs.NameTypes.{NameType, of_object, of_function, of_none, type_as, type_or, parameters_or, types_agree, composite_parameters, composite_type, joined_type}
 use Rattle.cr_check_linkage.specs.Linked.{Past, linked_in, name_type_in, seen_with, seen_by, same_by, composite_by}
@@ -251,9 +251,13 @@ module _ (nodes : List Node) (layouts : List Layout) (at : ℕ) where
   named_bounded k u said own derived b i n same h g = by (is_declarator k) refl
     where
       by : (c : Bool) → is_declarator k ≡ c
-          → P (if c then type_by u.nodes.now b own derived (declaration_of u.nodes.now u.above.now i) else specified_type said k (slice_index_or u.tags.now i None) (slice_index_or u.visible.now i None) b i n)
+          → P (if c then type_by u.nodes.now b own derived (declaration_of u.nodes.now u.above.now i) else (if is_misused k u.nodes.now (slice_index_or u.tags.now i None) i then unknown else specified_type said k (slice_index_or u.tags.now i None) (slice_index_or u.visible.now i None) b i n))
       by true e =
           subst (λ ns. P (type_by ns b own derived (declaration_of u.nodes.now u.above.now i))) (sym same)
           (type_bounded b own derived (declaration_of u.nodes.now u.above.now i) h
           (λ d f. subst (λ ns. IsDerived own derived (type_in b.named (specifiers_in ns (Some d)))) same (g e d f)))
-      by false e = specified_bounded said k (slice_index_or u.tags.now i None) (slice_index_or u.visible.now i None) b i n h
+      by false e = unmisused (is_misused k u.nodes.now (slice_index_or u.tags.now i None) i)
+        where
+          unmisused : (c : Bool) → P (if c then unknown else specified_type said k (slice_index_or u.tags.now i None) (slice_index_or u.visible.now i None) b i n)
+          unmisused true = tt
+          unmisused false = specified_bounded said k (slice_index_or u.tags.now i None) (slice_index_or u.visible.now i None) b i n h

@@ -10,7 +10,7 @@ use Rattle.cr_check_enclosing.specs.declared.context.Place.{Place}
 use Rattle.cr_check_enclosing.specs.declared.context.Place.TheVariants as place
 use Rattle.cr_check_types.specs.declared.shape.Shape.{Shape}
 use Rattle.cr_check_types.specs.declared.layout.Layout.{Layout}
-use Rattle.cr_check_types.specs.Types.{Qualified, type_at}
+use Rattle.cr_check_types.specs.Types.{Qualified, unknown, type_at}
 use Rattle.cr_check_types.specs.Layouts.{layout_of}
 use Rattle.cr_check_types.specs.Relations.{is_complete_at}
 use Rattle.cr_check_expressions.specs.declared.least.Break.{Break}
@@ -27,7 +27,7 @@ use Rattle.cr_check_declarators.specs.Declarators.{is_refused, is_declared, is_o
 use Rattle.cr_check_declarations.specs.declared.tree.Tree.{Tree}
 use Rattle.cr_check_declarations.specs.Before.{Before, kind_in, kind_if, parts_if, type_in}
 use Rattle.cr_check_declarations.specs.Specifiers.{specified_type}
-use Rattle.cr_check_declarations.specs.Named.{class_of, is_typedef, is_initialised, is_declarator, is_declaration, is_parameter, declares_name, type_by, named_by, value_by, ordinary_by, ordinary_of, names_ordinary, specifiers_in, constant_by, declared_by as declares_by, declaration_of}
+use Rattle.cr_check_declarations.specs.Named.{class_of, is_typedef, is_initialised, is_declarator, is_declaration, is_parameter, declares_name, type_by, is_misused, named_by, value_by, ordinary_by, ordinary_of, names_ordinary, specifiers_in, constant_by, declared_by as declares_by, declaration_of}
 use Rattle.cr_check_declarations.specs.Faults.{Has, has_at, fault_at, token_if, place_of, is_specifier, is_incomplete, are_specifiers, declarator_faults, whole_faults, faults_in}
 use Rattle.cr_check_initialisers.specs.Known as initial
 use Rattle.cr_check_initialisers.specs.Plans.{Entry, entries_of, length_asked}
@@ -204,7 +204,8 @@ named_declarator kind.TypeName u said own derived b i n e = absurd (false≢true
 named_declarator kind.Parameter u said own derived b i n e = absurd (false≢true e)
 named_declarator kind.InitDeclarator u said own derived b i n e = absurd (false≢true e)
 named_declarator k u said own derived b i n e =
-    ap (λ x. if x then type_by u.nodes.now b own derived (declaration_of u.nodes.now u.above.now i) else specified_type said k (slice_index_or u.tags.now i None) (slice_index_or u.visible.now i None) b i n) e
+    ap (λ x. if x then type_by u.nodes.now b own derived (declaration_of u.nodes.now u.above.now i)
+    else (if is_misused k u.nodes.now (slice_index_or u.tags.now i None) i then unknown else specified_type said k (slice_index_or u.tags.now i None) (slice_index_or u.visible.now i None) b i n)) e
 
 -- ---- in a unit
 

@@ -41,7 +41,7 @@ use Rattle.cr_meaning_types.specs.Known.Sighted.{is_use, is_tagged, IsSeen, IsCo
 use Rattle.cr_meaning_types.specs.Known.Sized.{is_open, IsTypedef, AreTypedefs}
 use Rattle.cr_meaning_types.specs.Known.Laws.{MembersAreSized}
 use Rattle.cr_meaning_types.proofs.KnownLemmas.Naming.{declaration_here, declaration_is, holds_all, ruled, specifier_holds, plain_named, named_early, specified_early}
-use Rattle.cr_meaning_types.proofs.KnownLemmas.Specifying.{specifier_plain, named_specified, single_specifier}
+use Rattle.cr_meaning_types.proofs.KnownLemmas.Specifying.{specifier_plain, named_specified, single_specifier, tag_holds, used_well}
 use Rattle.cr_meaning_types.proofs.KnownLemmas.Sizes.{declarator_names}
 use Rattle.cr_meaning_types.proofs.KnownLemmas.Declaring.{declarator_holds, unplaced, has_specifiers, there_is, node_there, declarator_plain, named_declarator}
 use Rattle.cr_meaning_types.proofs.KnownLemmas.Listing.{mapped, behind_first, appended}
@@ -404,8 +404,10 @@ module _ (u : Tree) (texts : List (List ℕ)) (shapes : List Shape) (t : Typing)
 
         specifiers_closed : is_specifier n.kind ≡ true → closed_at i
         specifiers_closed is =
+            let own = has_at shapes (entry_at t i).own in
+            let used = used_well n.kind u i _ (tag_holds own u i n (specifier_holds n.kind own b u i n is (holds_all u texts shapes t h holds i n at))) in
             closed_plain i n at (specifier_plain n.kind is)
-            (ap is_open (named_specified n.kind u (said_at i) (entry_at t i).own.declarator (type_at shapes (entry_at t i).own.derivations) b i n is)
+            (ap is_open (named_specified n.kind u (said_at i) (entry_at t i).own.declarator (type_at shapes (entry_at t i).own.derivations) b i n is used)
             ∙ named_closed (said_at i) _ (given_there n.kind refl))
 
         -- ---- declarators and members

@@ -1,11 +1,11 @@
 -- Specifiers that are one row of the list of types name one that is known (C11 6.7.2p2, K1, K5).
-use Rattle.std.proofs.Common.{◌≡◌, ℕ, ◌<◌, inl, inr, Bool, true, false, List, [], ◌∷◌, Option, None, Some, slice_get, slice_index_or, refl, sym, ap, subst, ◌∙◌}
+use Rattle.std.proofs.Common.{◌≡◌, ℕ, ◌<◌, inl, inr, Bool, true, false, List, [], ◌∷◌, Option, None, Some, slice_get, slice_index_or, if◌then◌else◌, refl, sym, ap, subst, ◌∙◌}
 use Rattle.std.proofs.lemmas.Bool.{and_parts, false≢true, not-false, ltb-true}
 use Rattle.cr_syntax.specs.declared.node.Kind.{Kind}
 use Rattle.cr_syntax.specs.declared.node.Kind.TheVariants as kind
 use Rattle.cr_syntax.specs.declared.node.Node.{Node}
 use Rattle.cr_check_types.specs.declared.shape.Shape.{Shape}
-use Rattle.cr_check_types.specs.Types.{Qualified, type_at}
+use Rattle.cr_check_types.specs.Types.{Qualified, unknown, type_at}
 use Rattle.cr_check_expressions.specs.declared.least.Break.{Break}
 use Rattle.cr_check_declarators.specs.declared.words.Base.TheVariants as base
 use Rattle.cr_check_declarators.specs.declared.words.Specified.{Specified}
@@ -15,9 +15,9 @@ use Rattle.cr_check_declarators.specs.Structures.{is_enumeration, tag_agrees}
 use Rattle.cr_check_declarations.specs.declared.tree.Tag.{Tag}
 use Rattle.cr_check_declarations.specs.declared.tree.Tree.{Tree}
 use Rattle.cr_check_declarations.specs.Before.{Before, kind_in, type_in}
-use Rattle.cr_check_declarations.specs.Specifiers.{is_given, declares_by, said_by, structure_by, structure_of, content_of, given_of}
-use Rattle.cr_check_declarations.specs.Named.{is_initialised, named_by}
-use Rattle.cr_check_declarations.specs.Faults.{Has, has_at, is_specifier, is_listed, tag_breaks, tag_fault, specifier_faults, place_of}
+use Rattle.cr_check_declarations.specs.Specifiers.{is_given, declares_by, said_by, structure_by, structure_of, content_of, given_of, specified_type}
+use Rattle.cr_check_declarations.specs.Named.{is_initialised, is_listed, tag_breaks, is_misused, named_by}
+use Rattle.cr_check_declarations.specs.Faults.{Has, has_at, is_specifier, tag_fault, specifier_faults, place_of}
 use Rattle.cr_check_unit.specs.declared.typing.Typing.{Typing}
 use Rattle.cr_check_unit.specs.Typing.{cut, entry_at, before_in, IsTyping}
 use Rattle.cr_check_unit.specs.Breaks.{IsBroken}
@@ -56,26 +56,33 @@ specifier_plain kind.InitDeclarator e = absurd (false≢true e)
 specifier_plain k e = refl
 
 pub named_specified : (k : Kind) (u : Tree) (said : Specified) (own : Declarator) (derived : Qualified) (b : Before) (i : ℕ) (n : Node) → is_specifier k ≡ true
+    → is_misused k u.nodes.now (slice_index_or u.tags.now i None) i ≡ false
     → named_by k u said own derived b i n ≡ named_type said (given_of k (slice_index_or u.tags.now i None) (slice_index_or u.visible.now i None) b i n)
-named_specified kind.TypeName u said own derived b i n e = absurd (false≢true e)
-named_specified kind.Parameter u said own derived b i n e = absurd (false≢true e)
-named_specified kind.InitDeclarator u said own derived b i n e = absurd (false≢true e)
-named_specified kind.NameDeclarator u said own derived b i n e = absurd (false≢true e)
-named_specified kind.GroupDeclarator u said own derived b i n e = absurd (false≢true e)
-named_specified kind.PointerDeclarator u said own derived b i n e = absurd (false≢true e)
-named_specified kind.ArrayDeclarator u said own derived b i n e = absurd (false≢true e)
-named_specified kind.FunctionDeclarator u said own derived b i n e = absurd (false≢true e)
-named_specified kind.AbstractPointer u said own derived b i n e = absurd (false≢true e)
-named_specified kind.AbstractGroup u said own derived b i n e = absurd (false≢true e)
-named_specified kind.AbstractArray u said own derived b i n e = absurd (false≢true e)
-named_specified kind.AbstractArrayOf u said own derived b i n e = absurd (false≢true e)
-named_specified k u said own derived b i n e = refl
+named_specified kind.TypeName u said own derived b i n e f = absurd (false≢true e)
+named_specified kind.Parameter u said own derived b i n e f = absurd (false≢true e)
+named_specified kind.InitDeclarator u said own derived b i n e f = absurd (false≢true e)
+named_specified kind.NameDeclarator u said own derived b i n e f = absurd (false≢true e)
+named_specified kind.GroupDeclarator u said own derived b i n e f = absurd (false≢true e)
+named_specified kind.PointerDeclarator u said own derived b i n e f = absurd (false≢true e)
+named_specified kind.ArrayDeclarator u said own derived b i n e f = absurd (false≢true e)
+named_specified kind.FunctionDeclarator u said own derived b i n e f = absurd (false≢true e)
+named_specified kind.AbstractPointer u said own derived b i n e f = absurd (false≢true e)
+named_specified kind.AbstractGroup u said own derived b i n e f = absurd (false≢true e)
+named_specified kind.AbstractArray u said own derived b i n e f = absurd (false≢true e)
+named_specified kind.AbstractArrayOf u said own derived b i n e f = absurd (false≢true e)
+named_specified k u said own derived b i n e f =
+    ap (λ x. if x then unknown else specified_type said k (slice_index_or u.tags.now i None) (slice_index_or u.visible.now i None) b i n) f
 
 -- ---- tags
 
-tag_holds : (own : Has) (u : Tree) (i : ℕ) (n : Node) → HoldsAll (specifier_faults own u (place_of u i) i n) → HoldsAll (tag_fault n.kind u i (slice_index_or u.tags.now i None) ∷ [])
+pub tag_holds : (own : Has) (u : Tree) (i : ℕ) (n : Node) → HoldsAll (specifier_faults own u (place_of u i) i n) → HoldsAll (tag_fault n.kind u i (slice_index_or u.tags.now i None) ∷ [])
 tag_holds own u i n h b (inl x) = h b (inr (inr (inr (inl x))))
 tag_holds own u i n h b (inr x) = absurd x
+
+-- a tag that keeps K5 is used as it is declared first
+pub used_well : (k : Kind) (u : Tree) (i : ℕ) (tag : Option Tag) → HoldsAll (tag_fault k u i tag ∷ []) → is_misused k u.nodes.now tag i ≡ false
+used_well k u i None h = refl
+used_well k u i (Some tag) h = unbroken 5 tag.token (tag_breaks k (kind_in u.nodes.now (Some tag.first)) (is_listed tag.content i)) [] h
 
 agrees : (k first : Kind) (listed : Bool) → tag_breaks k (Some first) listed ≡ false → tag_agrees k first listed ≡ true
 agrees k first listed e = not-false (tag_agrees k first listed) e
@@ -155,6 +162,8 @@ module _ (u : Tree) (texts : List (List ℕ)) (shapes : List Shape) (t : Typing)
   specified_known is one =
       let r = ruled u texts shapes t h holds i n at in
       let said : Specified = (entry_at t i).own.specified in
+      let own = has_at shapes (entry_at t i).own in
+      let used = used_well n.kind u i _ (tag_holds own u i n (specifier_holds n.kind own b u i n is (holds_all u texts shapes t h holds i n at))) in
       named_plain u texts shapes t h holds i n at (specifier_plain n.kind is)
-      (ap has_value (named_specified n.kind u said (entry_at t i).own.declarator (type_at shapes (entry_at t i).own.derivations) b i n is)
+      (ap has_value (named_specified n.kind u said (entry_at t i).own.declarator (type_at shapes (entry_at t i).own.derivations) b i n is used)
       ∙ named_worth said _ one (λ e. given_ok n.kind refl (sym (ap (λ (x : Specified). x.base) r.specified) ∙ e)))
