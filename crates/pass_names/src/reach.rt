@@ -1,6 +1,6 @@
 // Where what tokens name is declared and used.
-ghost use Rattle.std.specs.Prelude.{◌≡◌, ◌+◌, ◌-◌};
-ghost use Rattle.std.specs.List.{list_all, range_with_len};
+ghost use Rattle.std.specs.Prelude.{◌≡◌, ◌+◌, ◌-◌, ◌==◌, true};
+ghost use Rattle.std.specs.List.{list_all, list_any, range_with_len};
 ghost use Rattle.pass_names.specs.Reach.{are_own, declared_of, declares, entity_at, has_no_use_outside, is_own, is_within, number_of, uses_of};
 
 use cr_scopes::Names;
@@ -56,9 +56,19 @@ fn declared_of(names: &Names, token: usize) -> &[u32]
 fn declares(names: &Names, token: usize) -> bool
     ensures { result ≡ declares names.now token }
 {
-    declared_of(names, token)
-        .iter()
-        .any(|declared| *declared as usize == token)
+    let declared = declared_of(names, token);
+    is_found(declared, token) || declared.iter().any(|one| *one as usize == token)
+}
+
+/// Whether a token is found by halves among others. They stand in rising order, of which nothing is asked here: where it isn't found
+/// nothing is said.
+fn is_found(tokens: &[u32], token: usize) -> bool
+    ensures { result ≡ true → list_any (λ one. one == token) tokens.now ≡ true }
+{
+    match u32::try_from(token) {
+        Ok(token) => tokens.binary_search(&token).is_ok(),
+        Err(_) => false,
+    }
 }
 
 /// Whether a token stands from one to another.

@@ -1,15 +1,16 @@
 // Pass u: what has no use.
 ghost use Rattle.std.specs.Prelude.{◌≡◌, ◌++◌, ◌∷◌, [], length, drop, IfOk, OnOk};
+ghost use Rattle.std.specs.HashSet.{contains};
 ghost use Rattle.std.specs.List.{flat_map, list_any};
 ghost use Rattle.pass_levels.specs.Gathered.{gathered};
 ghost use Rattle.pass_levels.specs.Level.{level_of};
 ghost use Rattle.pass_levels.specs.Nodes.{node_at};
 ghost use Rattle.pass_levels.specs.Places.{gone as gone_by, with_comma as with_comma_by};
 ghost use Rattle.pass_names.specs.Reach.{is_within as is_within_by};
-ghost use Rattle.pass_names.specs.Members.{member_uses};
+ghost use Rattle.pass_names.specs.Members.{AreUsed, member_uses, same_member};
 ghost use Rattle.pass_names.specs.Unused.{declaration_by, declarations_give, declarator_gives, declarator_in, declarators_give, enumerator_gives, is_declared_unused, is_empty, is_unused, items_give, member_change, member_gives, members_give, part_at, parts_give, row_gives, u_levels, u_offering};
 
-use crate::members::{MemberUse, is_unused_member, member_uses};
+use crate::members::{MemberUse, is_unused_member, member_uses, used_members};
 use crate::reach::{are_own, has_no_use_outside, is_within, uses_of};
 use crate::reserved::reserved_of;
 use cr_rows::Row;
@@ -23,6 +24,7 @@ use pass_levels::{
     with_comma,
 };
 use std::alloc::{AllocError, Global};
+use std::collections::HashSet;
 
 // Each external declaration without use goes.
 #[derive(Drop)]
@@ -261,15 +263,17 @@ fn put_declaration(
 
 // Each enumerator and each member without use goes.
 #[derive(Drop)]
-struct PartsGo<'a> {
+struct PartsGo<'a, 'b> {
     file: &'a [u8],
-    tokens: &'a [Token],
-    nodes: &'a [Node],
-    names: &'a Names,
-    uses: &'a [MemberUse],
+    tokens: &'b [Token],
+    nodes: &'b [Node],
+    names: &'b Names,
+    uses: &'b [MemberUse],
+    used: &'b HashSet<(usize, &'a [u8])>,
+    ghost set: { AreUsed file.now tokens.now uses.now (contains same_member used.now) },
 }
 
-impl Level for PartsGo<'_> {
+impl Level for PartsGo<'_, '_> {
     ghost gives = { λ l k. parts_give l.file.now l.tokens.now l.nodes.now l.names.now l.uses.now k };
 
     fn give(&self, alloc: Global, node: usize, all: &mut Vec<Counted>) -> Result<(), AllocError> {
@@ -286,6 +290,7 @@ impl Level for PartsGo<'_> {
                     self.tokens,
                     self.nodes,
                     self.uses,
+                    self.used,
                     node,
                     declarations,
                     all,
@@ -348,16 +353,20 @@ fn put_all_members(
     tokens: &[Token],
     nodes: &[Node],
     uses: &[MemberUse],
+    used: &HashSet<(usize, &[u8])>,
     content: usize,
     declarations: &[u32],
     all: &mut Vec<Counted>,
 ) -> Result<(), AllocError>
+    requires { AreUsed file.now tokens.now uses.now (contains same_member used.now) }
     ensures { OnOk result (all.new.items ≡ all.old.items ++ flat_map (λ p. members_give file.now tokens.now nodes.now uses.now content (node_at nodes.now p)) declarations.now) }
 {
     for declaration in declarations {
         let whole = *declaration as usize;
         let row = behind_first(parts_at(nodes, whole));
-        put_members(alloc, file, tokens, nodes, uses, content, whole, row, all)?;
+        put_members(
+            alloc, file, tokens, nodes, uses, used, content, whole, row, all,
+        )?;
     }
     Ok(())
 }
@@ -368,16 +377,18 @@ fn put_members(
     tokens: &[Token],
     nodes: &[Node],
     uses: &[MemberUse],
+    used: &HashSet<(usize, &[u8])>,
     content: usize,
     whole: usize,
     row: &[u32],
     all: &mut Vec<Counted>,
 ) -> Result<(), AllocError>
+    requires { AreUsed file.now tokens.now uses.now (contains same_member used.now) }
     ensures { OnOk result (all.new.items ≡ all.old.items ++ gathered (member_gives file.now tokens.now nodes.now uses.now content (node_at nodes.now whole) row.now) (length row.now)) }
 {
     for at in 0..row.len() {
         put_member(
-            alloc, file, tokens, nodes, uses, content, whole, row, at, all,
+            alloc, file, tokens, nodes, uses, used, content, whole, row, at, all,
         )?;
     }
     Ok(())
@@ -389,16 +400,19 @@ fn put_member(
     tokens: &[Token],
     nodes: &[Node],
     uses: &[MemberUse],
+    used: &HashSet<(usize, &[u8])>,
     content: usize,
     whole: usize,
     row: &[u32],
     at: usize,
     all: &mut Vec<Counted>,
 ) -> Result<(), AllocError>
+    requires { AreUsed file.now tokens.now uses.now (contains same_member used.now) }
     ensures { OnOk result (all.new.items ≡ all.old.items ++ member_gives file.now tokens.now nodes.now uses.now content (node_at nodes.now whole) row.now at) }
 {
     let part = part_at(row, at);
-    if is_unused_member(file, tokens, uses, content, declared_by(nodes, part).name) {
+    let name = declared_by(nodes, part).name;
+    if is_unused_member(file, tokens, uses, used, content, name) {
         let change = member_change(tokens, nodes, whole, at, row.len(), part as usize);
         all.push(counted(alloc, nodes, part as usize, change)?)?;
     }
@@ -433,6 +447,7 @@ fn parts_go(
     ensures { IfOk result (λ edits. edits ≡ level_of (parts_give file.now tokens.now nodes.now names.now (member_uses nodes.now structures.now)) (length nodes.now)) }
 {
     let uses = member_uses(alloc, nodes, structures)?;
+    let used = used_members(alloc, file, tokens, uses.as_slice())?;
     list(
         alloc,
         nodes.len(),
@@ -442,6 +457,7 @@ fn parts_go(
             nodes,
             names,
             uses: uses.as_slice(),
+            used: &used,
         },
     )
 }
