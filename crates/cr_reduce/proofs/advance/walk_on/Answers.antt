@@ -170,3 +170,33 @@ returns-then-not-keep_newest-clause-made g c =
     let says = says_kept g.J.Judge c.args.bench.now.judges c.loop-why.bench.judges c.loop-why.invariant.keys in
     let part : IsPart start c.loop-why.bench.kept before middle now = record { earlier = c.loop-why.invariant.walked.goes_on; on = c.advance-step.ensures.goes_on; made = c.loop-why.invariant.made } in
     made_within start c.loop-why.bench.kept before middle now part c.advance-step.new.bench.kept (subst (λ s. AreMade (search s) middle now c.advance-step.new.bench.kept) says c.advance-step.ensures.made)
+
+pub returns-in-Some-clause-keys : goal.returns-in-Some-clause-keys
+returns-in-Some-clause-keys g c = c.advance-step.ensures.keys ∙ c.loop-why.invariant.keys
+
+pub returns-in-Some-clause-others : goal.returns-in-Some-clause-others
+returns-in-Some-clause-others g c = c.advance-step.ensures.others ∙ c.loop-why.invariant.others
+
+pub returns-in-Some-clause-silent : goal.returns-in-Some-clause-silent
+returns-in-Some-clause-silent g c = λ quiet. c.advance-step.ensures.silent quiet ∙ c.loop-why.invariant.silent quiet
+
+pub returns-in-Some-clause-within : goal.returns-in-Some-clause-within
+returns-in-Some-clause-within g c = c.advance-step.ensures.within
+
+pub returns-in-Some-clause-held : goal.returns-in-Some-clause-held
+returns-in-Some-clause-held g c = c.loop-why.invariant.held
+
+pub returns-then-not-keep_newest-clause-keys : goal.returns-then-not-keep_newest-clause-keys
+returns-then-not-keep_newest-clause-keys g c = c.advance-step.ensures.keys ∙ c.loop-why.invariant.keys
+
+pub returns-then-not-keep_newest-clause-others : goal.returns-then-not-keep_newest-clause-others
+returns-then-not-keep_newest-clause-others g c = c.advance-step.ensures.others ∙ c.loop-why.invariant.others
+
+pub returns-then-not-keep_newest-clause-silent : goal.returns-then-not-keep_newest-clause-silent
+returns-then-not-keep_newest-clause-silent g c = λ quiet. c.advance-step.ensures.silent quiet ∙ c.loop-why.invariant.silent quiet
+
+pub returns-then-not-keep_newest-clause-within : goal.returns-then-not-keep_newest-clause-within
+returns-then-not-keep_newest-clause-within g c = c.advance-step.ensures.within
+
+pub returns-then-not-keep_newest-clause-held : goal.returns-then-not-keep_newest-clause-held
+returns-then-not-keep_newest-clause-held g c = c.keep_newest.ensures.held ∙ c.loop-why.invariant.held

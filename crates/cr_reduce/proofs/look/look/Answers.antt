@@ -38,3 +38,78 @@ returns-in-Fault-clause-others g c = drop_more c.within-step.result.workers c.ar
 
 pub returns-in-NoMemory-clause-others : goal.returns-in-NoMemory-clause-others
 returns-in-NoMemory-clause-others g c = drop_more c.within-step.result.workers c.args.plan.now.workers c.try_next.new.bench.judges c.args.bench.now.judges c.within-step.ensures.workers.1 c.try_next.ensures.others
+
+pub returns-in-NoneOf-clause-keys : goal.returns-in-NoneOf-clause-keys
+returns-in-NoneOf-clause-keys g c = c.try_next.ensures.keys
+
+pub returns-in-NoneOf-clause-silent : goal.returns-in-NoneOf-clause-silent
+returns-in-NoneOf-clause-silent g c = c.try_next.ensures.silent
+
+pub returns-in-NoneOf-clause-goes_on : goal.returns-in-NoneOf-clause-goes_on
+returns-in-NoneOf-clause-goes_on g c = c.try_next.ensures.goes_on
+
+pub returns-in-NoneOf-clause-made : goal.returns-in-NoneOf-clause-made
+returns-in-NoneOf-clause-made g c = c.try_next.ensures.made
+
+pub returns-in-NoneOf-clause-asks : goal.returns-in-NoneOf-clause-asks
+returns-in-NoneOf-clause-asks g c = c.try_next.ensures.asks
+
+pub returns-in-Ok-clause-keys : goal.returns-in-Ok-clause-keys
+returns-in-Ok-clause-keys g c = c.try_next.ensures.keys
+
+pub returns-in-Ok-clause-silent : goal.returns-in-Ok-clause-silent
+returns-in-Ok-clause-silent g c = c.try_next.ensures.silent
+
+pub returns-in-Ok-clause-goes_on : goal.returns-in-Ok-clause-goes_on
+returns-in-Ok-clause-goes_on g c = c.try_next.ensures.goes_on
+
+pub returns-in-Ok-clause-made : goal.returns-in-Ok-clause-made
+returns-in-Ok-clause-made g c = c.try_next.ensures.made
+
+pub returns-in-Ok-clause-asks : goal.returns-in-Ok-clause-asks
+returns-in-Ok-clause-asks g c = c.try_next.ensures.asks
+
+pub returns-in-Err-clause-keys : goal.returns-in-Err-clause-keys
+returns-in-Err-clause-keys g c = c.try_next.ensures.keys
+
+pub returns-in-Err-clause-silent : goal.returns-in-Err-clause-silent
+returns-in-Err-clause-silent g c = c.try_next.ensures.silent
+
+pub returns-in-Err-clause-goes_on : goal.returns-in-Err-clause-goes_on
+returns-in-Err-clause-goes_on g c = c.try_next.ensures.goes_on
+
+pub returns-in-Err-clause-made : goal.returns-in-Err-clause-made
+returns-in-Err-clause-made g c = c.try_next.ensures.made
+
+pub returns-in-Err-clause-asks : goal.returns-in-Err-clause-asks
+returns-in-Err-clause-asks g c = c.try_next.ensures.asks
+
+pub returns-in-Fault-clause-keys : goal.returns-in-Fault-clause-keys
+returns-in-Fault-clause-keys g c = c.try_next.ensures.keys
+
+pub returns-in-Fault-clause-silent : goal.returns-in-Fault-clause-silent
+returns-in-Fault-clause-silent g c = c.try_next.ensures.silent
+
+pub returns-in-Fault-clause-goes_on : goal.returns-in-Fault-clause-goes_on
+returns-in-Fault-clause-goes_on g c = c.try_next.ensures.goes_on
+
+pub returns-in-Fault-clause-made : goal.returns-in-Fault-clause-made
+returns-in-Fault-clause-made g c = c.try_next.ensures.made
+
+pub returns-in-Fault-clause-asks : goal.returns-in-Fault-clause-asks
+returns-in-Fault-clause-asks g c = c.try_next.ensures.asks
+
+pub returns-in-NoMemory-clause-keys : goal.returns-in-NoMemory-clause-keys
+returns-in-NoMemory-clause-keys g c = c.try_next.ensures.keys
+
+pub returns-in-NoMemory-clause-silent : goal.returns-in-NoMemory-clause-silent
+returns-in-NoMemory-clause-silent g c = c.try_next.ensures.silent
+
+pub returns-in-NoMemory-clause-goes_on : goal.returns-in-NoMemory-clause-goes_on
+returns-in-NoMemory-clause-goes_on g c = c.try_next.ensures.goes_on
+
+pub returns-in-NoMemory-clause-made : goal.returns-in-NoMemory-clause-made
+returns-in-NoMemory-clause-made g c = c.try_next.ensures.made
+
+pub returns-in-NoMemory-clause-asks : goal.returns-in-NoMemory-clause-asks
+returns-in-NoMemory-clause-asks g c = c.try_next.ensures.asks
