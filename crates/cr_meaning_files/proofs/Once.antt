@@ -298,6 +298,7 @@ module _ (file : List ℕ) (t : Typed) (it : IsUnitOfFile file t) (token d q pla
         at = at;
         is = ap tellings.is_parameter is;
         place = k;
+        first = λ f. absurd (false≢true (sym (ap tellings.is_parameter f) ∙ ap tellings.is_parameter is));
         part = y;
         has = behind o.parts k y e;
         declarator = x.declarator;
