@@ -8,7 +8,7 @@ put() { mkdir -p "$prefix/${3%/*}" && install -m "$1" "$2" "$prefix/$3.part" && 
 # record_of PROGRAM: what is known of it, a line each.
 record_of() {
     local commit
-    echo 'creduce 1.0'
+    echo 'creduce 0.9.0'
     if commit=$(git -C "$top" rev-parse HEAD 2>/dev/null); then echo "commit $commit$([ -z "$(git -C "$top" status --porcelain 2>/dev/null)" ] || echo ' changed')"; fi
     if [ "$1" = "$top/release/creduce" ]; then
         grep -v '^creduce ' "$record"
