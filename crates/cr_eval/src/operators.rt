@@ -50,9 +50,7 @@ pub(crate) fn changed(
 {
     match change {
         Change::Arithmetic(op, kind) => arithmetic(store, op, kind, left, right),
-        Change::Move(back, cells) => Ok(Value::Pointer(moved_either(
-            store, back, cells, left, right,
-        )?)),
+        Change::Move(back, own) => Ok(Value::Pointer(moved_either(store, back, own, left, right)?)),
     }
 }
 

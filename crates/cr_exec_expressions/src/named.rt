@@ -19,7 +19,7 @@ fn object_of(work: &Work) -> Option<u32>
     ensures { result ≡ object_of work.now }
 {
     match work {
-        Work::Object(declared) => Some(*declared),
+        Work::Object(declared, _) => Some(*declared),
         _ => None,
     }
 }

@@ -7,7 +7,7 @@ use Rattle.cr_meaning.specs.declared.op.Operator.TheVariants as operator
 use Rattle.cr_syntax.specs.declared.node.Kind.{Kind}
 use Rattle.cr_syntax.specs.declared.node.Kind.TheVariants as kind
 use Rattle.cr_typed.specs.declared.typed.Typed.{Typed}
-use Rattle.cr_meaning_operations.specs.Shapes.{type_of_node, stride_of, kind_in, is_pointer}
+use Rattle.cr_meaning_operations.specs.Shapes.{type_of_node, pointed_element, kind_in, is_pointer}
 use Rattle.cr_meaning_operations.specs.Operations.{kind_at, parts_at, node_op, left_type, right_type, constant_by, value_or, op_by, common_kind}
 use Rattle.cr_exec_table.specs.Roles.{role_of, op_in, op_at, duty_work, reach_work, leaf_work, sum_change}
 
@@ -28,7 +28,7 @@ comparison_is t node relation =
 same : (t : Typed) (node : ℕ) (k : Kind) → op_in t node (role_of k) ≡ op_by t node k
 unfolding op_in role_of duty_work reach_work leaf_work
 same t node kind.Subtract =
-    node_if (is_pointer (left_type t node) && is_pointer (right_type t node)) (parts_at t node) (work.Distance (stride_of t (left_type t node))) (work.Binary (sum_change t node operator.Subtract true))
+    node_if (is_pointer (left_type t node) && is_pointer (right_type t node)) (parts_at t node) (work.Distance (pointed_element t (left_type t node))) (work.Binary (sum_change t node operator.Subtract true))
 same t node kind.Equal = comparison_is t node _
 same t node kind.NotEqual = comparison_is t node _
 same t node kind.Less = comparison_is t node _

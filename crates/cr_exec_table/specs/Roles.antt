@@ -16,10 +16,9 @@ use Rattle.cr_syntax.specs.declared.ctype.CType.TheVariants.{Int}
 use Rattle.cr_syntax.specs.declared.node.Kind.{Kind}
 use Rattle.cr_syntax.specs.declared.node.Kind.TheVariants as kind
 use Rattle.cr_typed.specs.declared.typed.Typed.{Typed}
-use Rattle.cr_typed.specs.Typed.{row_cells}
-use Rattle.cr_check_types.specs.Types.{Qualified, plain}
-use Rattle.cr_meaning_operations.specs.Shapes.{type_of_node, stride_of, kind_in, is_pointer, is_volatile, form_of, cells_of, offset_in}
-use Rattle.cr_meaning_operations.specs.Operations.{kind_at, parts_at, part_at, entity_of, name_of, declarators_of, objects_in, line_of, node_op, change_of, common_kind, left_type, right_type, left_row, placed, either_stride, address_by, pointed, chosen_row, value_or, identifier_by, op_of, callee_of, for_of, labelled, targets_from, switch_of}
+use Rattle.cr_check_types.specs.Types.{Qualified, plain, type_at}
+use Rattle.cr_meaning_operations.specs.Shapes.{type_of_node, kind_in, is_pointer, is_volatile, form_of, cells_of, offset_in, name_in, as_element, pointed_element}
+use Rattle.cr_meaning_operations.specs.Operations.{kind_at, parts_at, part_at, entity_of, name_of, declarators_of, objects_in, line_of, node_op, change_of, common_kind, left_type, right_type, left_row, placed, either_element, address_by, pointed, chosen_row, value_or, identifier_by, op_of, callee_of, for_of, labelled, targets_from, switch_of}
 use Rattle.cr_exec_table.specs.declared.role.Role.{Role}
 use Rattle.cr_exec_table.specs.declared.role.Role.TheVariants as role
 use Rattle.cr_exec_table.specs.declared.role.Duty.{Duty}
@@ -128,7 +127,7 @@ one_change t node op back =
 abbrev pub difference_work : Typed → ℕ → Work
 difference_work t node =
     if is_pointer (left_type t node) && is_pointer (right_type t node)
-    then work.Distance (stride_of t (left_type t node))
+    then work.Distance (pointed_element t (left_type t node))
     else work.Binary (sum_change t node operator.Subtract true)
 
 abbrev pub comparison_work : Typed → ℕ → Relation → Work
@@ -164,15 +163,15 @@ duty_work t node duty.Return = work.Return (form_of t (slice_index_or t.named no
 
 abbrev pub member_work : Typed → ℕ → Qualified → Work
 member_work t node structure =
-    work.Member (cells_of t structure) (offset_in t structure (slice_index_or t.chosen node 0)) (row_cells t (chosen_row t node structure)) (form_of t (chosen_row t node structure))
+    work.Member (cells_of t structure) (offset_in t structure (slice_index_or t.chosen node 0)) (as_element t (type_at t.shapes (chosen_row t node structure))) (form_of t (chosen_row t node structure))
 
 abbrev pub pointer_member_work : Typed → ℕ → Qualified → Work
 pointer_member_work t node structure =
-    work.PointerMember (cells_of t structure) (offset_in t structure (slice_index_or t.chosen node 0)) (row_cells t (chosen_row t node structure))
+    work.PointerMember (as_element t structure) (offset_in t structure (slice_index_or t.chosen node 0)) (as_element t (type_at t.shapes (chosen_row t node structure)))
 
 unfoldable pub reach_work : Typed → ℕ → Reach → Work
-reach_work t node reach.Dereference = work.Dereference (stride_of t (left_type t node))
-reach_work t node reach.Subscript = work.Subscript (either_stride t (left_type t node) (right_type t node))
+reach_work t node reach.Dereference = work.Dereference (pointed_element t (left_type t node))
+reach_work t node reach.Subscript = work.Subscript (either_element t (left_type t node) (right_type t node))
 reach_work t node reach.Member = member_work t node (type_of_node t (part_at t node 0))
 reach_work t node reach.PointerMember = pointer_member_work t node (pointed (left_type t node))
 reach_work t node reach.Group = work.Pass
@@ -208,7 +207,7 @@ unfoldable pub op_in : Typed → ℕ → Role → Op
 op_in t node (role.Worker duty) = node_op (parts_at t node) (duty_work t node duty)
 op_in t node (role.Placer reach) = placed t node (parts_at t node) (reach_work t node reach)
 op_in t node (role.Single leaf) = node_op [] (leaf_work t node leaf)
-op_in t node role.Text = placed t node [] (work.Object node)
+op_in t node role.Text = placed t node [] (work.Object node (name_in t (type_of_node t node)))
 op_in t node role.Identifier = identifier_by t node (slice_index_or t.constants node None)
 op_in t node role.Cast = node_op (part_at t node 1 ∷ []) (work.Cast (form_of t (slice_index_or t.named node 0)))
 op_in t node role.Address = address_by t node (part_at t node 0) (kind_at t (part_at t node 0))

@@ -5,7 +5,7 @@ use cr_exec_library::{exit, printf, putchar};
 use cr_exec_world::write;
 use cr_ints::IntKind;
 use cr_meaning::Value;
-use cr_memory::{Cell, Guard, Pointer, Scalar, Store, Trap};
+use cr_memory::{Cell, Element, Guard, Pointer, Scalar, Store, Trap};
 use std::alloc::{AllocError, Global};
 
 // Formats, arguments, and the value with what stands in the output then, or the first case. An argument is a number of type int, or with
@@ -66,7 +66,7 @@ fn string(alloc: Global, unit: &mut Unit, bytes: &str, closed: bool) -> Result<V
         cell: 0,
         low: 0,
         high,
-        stride: 1,
+        element: Element { cells: 1, of: 1 },
     }))
 }
 
