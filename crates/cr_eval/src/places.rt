@@ -1,3 +1,5 @@
+#![tactic(auto, using(crate::proofs::Answering::answers, crate::proofs::Answering::then_answers, crate::proofs::Answering::ends_answer, crate::proofs::Answering::written))]
+
 ghost use Rattle.std.specs.Prelude.{◌≡◌, Some, Ok, IfSome, false, length};
 ghost use Rattle.cr_memory.specs.Memory.{Memory};
 ghost use Rattle.cr_memory.specs.Access.{load_of, cells_of, number_of, cell_of};

@@ -1,3 +1,5 @@
+#![tactic(auto, using(crate::proofs::Answering::answers, crate::proofs::Answering::then_answers, crate::proofs::Answering::ends_answer, crate::proofs::Answering::written))]
+
 ghost use Rattle.std.specs.Prelude.{◌≡◌, length, IsTrue, false, if◌then◌else◌};
 ghost use Rattle.cr_memory.specs.Memory.{AllHold};
 ghost use Rattle.cr_memory.specs.Access.{save_of, put_of};

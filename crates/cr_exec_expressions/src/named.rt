@@ -1,4 +1,6 @@
 // Nodes without operands (C11 6.5.1).
+#![tactic(auto, using(crate::proofs::Parting::unsaid, crate::proofs::Parting::no_memory, crate::proofs::Parting::none_join))]
+
 ghost use Rattle.std.specs.Prelude.{◌≡◌, ℕ, [], Some};
 ghost use Rattle.cr_eval.specs.Table.{program_of};
 ghost use Rattle.cr_eval_join.specs.Joins.{Joins};

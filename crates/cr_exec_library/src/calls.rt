@@ -1,4 +1,6 @@
 // The calls.
+#![tactic(auto, using(cr_eval::proofs::Answering::answers, cr_eval::proofs::Answering::then_answers, cr_eval::proofs::Answering::ends_answer, crate::proofs::Printing::is_byte, crate::proofs::Printing::from_none))]
+
 ghost use Rattle.std.specs.Prelude.{◌≡◌, ◌∷◌, [], Some, pos, length, nat_le, ◌+◌};
 ghost use Rattle.std.specs.List.{list_any, zip};
 ghost use Rattle.cr_meaning.specs.World.{World};

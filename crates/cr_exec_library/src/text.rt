@@ -1,4 +1,6 @@
 // Strings (C11 7.1.1p1).
+#![tactic(auto, using(cr_eval::proofs::Answering::answers, cr_eval::proofs::Answering::then_answers, cr_eval::proofs::Answering::ends_answer, crate::proofs::Printing::is_byte, crate::proofs::Printing::from_none))]
+
 ghost use Rattle.std.specs.Prelude.{◌≡◌, Ok, ◌+◌, IfSome};
 ghost use Rattle.cr_ints.specs.IntKind.{IsInteger};
 ghost use Rattle.cr_meaning.specs.World.{then_by};

@@ -8,6 +8,7 @@ ghost use Rattle.cr_meaning_operations.specs.Shapes.{unqualified, name_in, numbe
 use crate::numbers::{list_if, rows};
 use cr_check_types::Table;
 use cr_memory::place_of;
+use cr_rows::entry_at;
 use cr_syntax::CType;
 use cr_typed::Typed;
 use std::alloc::{AllocError, Global};
@@ -45,7 +46,7 @@ fn name(typed: &Typed, numbers: &[u32], arrays: &[u32], row: u32) -> Result<u32,
     let table = &typed.shapes;
     match table.shape(row).of {
         CType::Int(kind) => Ok(place_of(kind)),
-        CType::Pointer(below) => in_turn(12, number_at(numbers, below)),
+        CType::Pointer(below) => in_turn(12, entry_at(numbers, below as usize, 0)),
         CType::Struct(node) => in_turn(13, node),
         CType::Array(_, _) => in_turn(14, first_alike(table, arrays, row)),
         CType::Void | CType::Function(_) | CType::Unknown => Ok(0),
@@ -62,15 +63,6 @@ fn in_turn(first: u32, number: u32) -> Result<u32, AllocError>
     match before.checked_add(first) {
         Some(name) => Ok(name),
         None => Err(AllocError),
-    }
-}
-
-fn number_at(numbers: &[u32], row: u32) -> u32
-    ensures { result ≡ slice_index_or numbers.now row 0 }
-{
-    match numbers.get(row as usize) {
-        Some(number) => *number,
-        None => 0,
     }
 }
 

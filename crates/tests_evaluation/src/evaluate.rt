@@ -139,7 +139,7 @@ fn pointer_text(alloc: Global, pointer: Pointer) -> Result<String, AllocError> {
             high,
             element,
             ..
-        } => format!(in alloc; "{cell} of {low}..{high} by {element.cells}"),
+        } => format!(in alloc; "{cell} of {low}..{high} by {}", element.cells),
     }
 }
 
