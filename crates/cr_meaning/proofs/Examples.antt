@@ -13,6 +13,7 @@ use Rattle.cr_memory.specs.declared.value.Cell.TheVariants as cell
 use Rattle.cr_meaning.specs.World.{Program, World, Answer, Halt}
 use Rattle.cr_meaning.specs.Language.{Reply}
 use Rattle.cr_meaning.specs.Meaning.{body, operands, root_of, start_of, run_of}
+use Rattle.cr_meaning.specs.Values.{scalar_element}
 use Rattle.cr_meaning.specs.Library.{pieces_of}
 use Rattle.cr_meaning.specs.Playing.{played}
 use Rattle.cr_meaning.specs.declared.op.Op.{Op}
@@ -406,12 +407,22 @@ unfolding body played pieces_of
 recurs = refl
 
 -- int s, *p = &s; int main(){*p += 7; return s;}
-static_objects_begin_as_zero : verdict (program (op [] work.Declaration access.Unused ∷ op [] work.Declaration access.Unused ∷ op [] (work.Object 0 0) access.Unused ∷ op (2 ∷ []) work.AddressOf access.Unused ∷ op (3 ∷ []) (work.Initialise 1 (line 0 (form.Pointer 0) 4 ∷ [])) access.Unused ∷ op [] (work.Object 1 0) (access.Scalar (scalar.Pointer 0) false) ∷ op (5 ∷ []) (work.Dereference (element 1)) access.Unused ∷ op [] (work.Constant Int (pos 7)) access.Unused ∷ op (6 ∷ 7 ∷ []) (work.Update (Arithmetic operator.Add Int) (form.Number Int) false false) access.Unused ∷ op (8 ∷ []) work.Expression access.Unused ∷ op [] (work.Object 0 0) (access.Scalar (scalar.Int Int) false) ∷ op (10 ∷ []) (work.Return (form.Number Int)) access.Unused ∷ op (9 ∷ 11 ∷ []) (work.Block [] []) access.Unused ∷ op (4 ∷ []) (work.Program (0 ∷ 1 ∷ []) [] (scalar.Pointer 3) 12) access.Unused ∷ []) ((0, ((scalar.Int Int, guard.Free) ∷ [])) ∷ (1, ((scalar.Pointer 0, guard.Free) ∷ [])) ∷ []) [] [] (record { steps = 60; depth = 4; cells = 100; output = 100 })) ≡ fine 7 []
+static_objects_begin_as_zero : verdict (program (op [] work.Declaration access.Unused ∷ op [] work.Declaration access.Unused ∷ op [] (work.Object 0 6) access.Unused ∷ op (2 ∷ []) work.AddressOf access.Unused ∷ op (3 ∷ []) (work.Initialise 1 (line 0 (form.Pointer 0) 4 ∷ [])) access.Unused ∷ op [] (work.Object 1 0) (access.Scalar (scalar.Pointer 0) false) ∷ op (5 ∷ []) (work.Dereference (scalar_element (scalar.Int Int))) access.Unused ∷ op [] (work.Constant Int (pos 7)) access.Unused ∷ op (6 ∷ 7 ∷ []) (work.Update (Arithmetic operator.Add Int) (form.Number Int) false false) access.Unused ∷ op (8 ∷ []) work.Expression access.Unused ∷ op [] (work.Object 0 0) (access.Scalar (scalar.Int Int) false) ∷ op (10 ∷ []) (work.Return (form.Number Int)) access.Unused ∷ op (9 ∷ 11 ∷ []) (work.Block [] []) access.Unused ∷ op (4 ∷ []) (work.Program (0 ∷ 1 ∷ []) [] (scalar.Pointer 3) 12) access.Unused ∷ []) ((0, ((scalar.Int Int, guard.Free) ∷ [])) ∷ (1, ((scalar.Pointer 0, guard.Free) ∷ [])) ∷ []) [] [] (record { steps = 60; depth = 4; cells = 100; output = 100 })) ≡ fine 7 []
 unfolding body played pieces_of
 static_objects_begin_as_zero = refl
 
+-- struct p{int a;} s; struct q{int b;}; int main(){return ((struct q *)&s)->b;}
+sees_a_structure_as_another : verdict (program (op [] work.Declaration access.Unused ∷ op [] (work.Object 0 13) access.Unused
+    ∷ op (1 ∷ []) work.AddressOf access.Unused ∷ op (2 ∷ []) (work.Cast (form.Pointer 0)) access.Unused
+    ∷ op (3 ∷ []) (work.PointerMember (record { cells = 1; of = 16 }) 0 (scalar_element (scalar.Int Int))) (access.Scalar (scalar.Int Int) false)
+    ∷ op (4 ∷ []) (work.Return (form.Number Int)) access.Unused ∷ op (5 ∷ []) (work.Block [] []) access.Unused
+    ∷ op [] (work.Program (0 ∷ []) [] (scalar.Pointer 3) 6) access.Unused ∷ []) ((0, ((scalar.Int Int, guard.Free) ∷ [])) ∷ []) [] []
+    (record { steps = 60; depth = 4; cells = 100; output = 100 })) ≡ left 5 4
+unfolding body played pieces_of
+sees_a_structure_as_another = refl
+
 -- int main(int c, char **v){return c + (v[0] == 0);}
-main_has_parameters : verdict (program (op [] work.Declaration access.Unused ∷ op [] work.Declaration access.Unused ∷ op [] (work.Object 0 0) (access.Scalar (scalar.Int Int) false) ∷ op [] (work.Object 1 0) (access.Scalar (scalar.Pointer 4) false) ∷ op [] (work.Constant Int (pos 0)) access.Unused ∷ op (3 ∷ 4 ∷ []) (work.Subscript (element 1)) (access.Scalar (scalar.Pointer 3) false) ∷ op [] (work.Constant Int (pos 0)) access.Unused ∷ op (5 ∷ 6 ∷ []) (work.ComparePointers Equal) access.Unused ∷ op (2 ∷ 7 ∷ []) (work.Binary (Arithmetic operator.Add Int)) access.Unused ∷ op (8 ∷ []) (work.Return (form.Number Int)) access.Unused ∷ op (9 ∷ []) (work.Block [] []) access.Unused ∷ op [] (work.Program [] (parameter 0 (form.Number Int) ∷ parameter 1 (form.Pointer 4) ∷ []) (scalar.Pointer 3) 10) access.Unused ∷ []) ((0, ((scalar.Int Int, guard.Free) ∷ [])) ∷ (1, ((scalar.Pointer 4, guard.Free) ∷ [])) ∷ []) [] [] (record { steps = 60; depth = 4; cells = 100; output = 100 })) ≡ fine 1 []
+main_has_parameters : verdict (program (op [] work.Declaration access.Unused ∷ op [] work.Declaration access.Unused ∷ op [] (work.Object 0 0) (access.Scalar (scalar.Int Int) false) ∷ op [] (work.Object 1 0) (access.Scalar (scalar.Pointer 4) false) ∷ op [] (work.Constant Int (pos 0)) access.Unused ∷ op (3 ∷ 4 ∷ []) (work.Subscript (scalar_element (scalar.Pointer 3))) (access.Scalar (scalar.Pointer 3) false) ∷ op [] (work.Constant Int (pos 0)) access.Unused ∷ op (5 ∷ 6 ∷ []) (work.ComparePointers Equal) access.Unused ∷ op (2 ∷ 7 ∷ []) (work.Binary (Arithmetic operator.Add Int)) access.Unused ∷ op (8 ∷ []) (work.Return (form.Number Int)) access.Unused ∷ op (9 ∷ []) (work.Block [] []) access.Unused ∷ op [] (work.Program [] (parameter 0 (form.Number Int) ∷ parameter 1 (form.Pointer 4) ∷ []) (scalar.Pointer 3) 10) access.Unused ∷ []) ((0, ((scalar.Int Int, guard.Free) ∷ [])) ∷ (1, ((scalar.Pointer 4, guard.Free) ∷ [])) ∷ []) [] [] (record { steps = 60; depth = 4; cells = 100; output = 100 })) ≡ fine 1 []
 unfolding body played pieces_of
 main_has_parameters = refl
 
