@@ -93,7 +93,7 @@ fn are_alike(table: &Table, left: u32, right: u32) -> bool
     loop {
         match (table.shape(left).of, table.shape(right).of) {
             (CType::Array(one, count), CType::Array(other, size)) => {
-                if count != 0 && size != 0 && count != size {
+                if !sizes_agree(count, size) {
                     return false;
                 }
                 left = one;
@@ -102,4 +102,10 @@ fn are_alike(table: &Table, left: u32, right: u32) -> bool
             _ => return table.are_compatible_bare(left, right),
         }
     }
+}
+
+fn sizes_agree(count: u64, size: u64) -> bool
+    ensures { result ≡ sizes_agree count size }
+{
+    count == 0 || size == 0 || count == size
 }
