@@ -1,12 +1,12 @@
 -- Rows of a kind, as a list that rises.
-use Rattle.std.proofs.Common.{◌≡◌, ◌<◌, ◌≤◌, ◌+◌, ◌++◌, ◌∷◌, [], ℕ, List, Bool, true, false, ◌&&◌, inl, inr, refl, sym, ap, ◌∙◌, arith, length, slice_index_or, length-append}
+use Rattle.std.proofs.Common.{◌≡◌, ◌<◌, ◌≤◌, ◌+◌, ◌++◌, ◌∷◌, [], ℕ, List, Bool, true, false, inl, inr, refl, sym, ap, ◌∙◌, arith, length, slice_index_or, length-append}
 use Rattle.std.proofs.Math.ListN.{get_or-append}
 use Rattle.std.proofs.Math.Seq.{get_or-append_seam}
 use Rattle.std.proofs.lemmas.List.{append-nil}
 use Rattle.std.proofs.lemmas.Bool.{cases_Bool, cases_lt, true≢false, false≢true}
 use Rattle.cr_check_types.specs.declared.shape.Shape.{Shape}
 use Rattle.cr_check_types.specs.Types.{Qualified, plain, pointer, array, type_at}
-use Rattle.cr_check_types.specs.Relations.{are_compatible, sizes_agree, bare}
+use Rattle.cr_check_types.specs.Relations.{are_compatible}
 use Rattle.cr_check_types.specs.Shared.{IsCanonical}
 use Rattle.cr_exec_shapes.specs.Open.{is_open, is_array, AreListed, IsAmong, listed_if}
 use Rattle.cr_meaning_operations.specs.Shapes.{unqualified}
@@ -134,23 +134,3 @@ arrays_apart (plain of c v) (pointer d w u) is not = absurd (false≢true is)
 arrays_apart (pointer c v t) (array n u) is not = refl
 arrays_apart (pointer c v t) (plain other d w) is not = absurd (false≢true is)
 arrays_apart (pointer c v t) (pointer d w u) is not = absurd (false≢true is)
-
--- arrays are alike where their sizes agree and their elements are alike
-pub alike_arrays : (n m : ℕ) (t u : Qualified) → sizes_agree n m ≡ true
-    → are_compatible (unqualified (array n t)) (unqualified (array m u)) ≡ are_compatible (unqualified t) (unqualified u)
-alike_arrays n m t u e = rw e refl
-
-pub unlike_arrays : (n m : ℕ) (t u : Qualified) → sizes_agree n m ≡ false → are_compatible (unqualified (array n t)) (unqualified (array m u)) ≡ false
-unlike_arrays n m t u e = rw e refl
-
--- other types are alike where they are compatible without their own qualifiers
-pub alike_bare : (t u : Qualified) → is_array t && is_array u ≡ false → are_compatible (unqualified t) (unqualified u) ≡ are_compatible (bare t) (bare u)
-alike_bare (array n t) (array m u) e = absurd (true≢false e)
-alike_bare (array n t) (plain other d w) e = refl
-alike_bare (array n t) (pointer d w u) e = refl
-alike_bare (plain of c v) (array m u) e = refl
-alike_bare (plain of c v) (plain other d w) e = refl
-alike_bare (plain of c v) (pointer d w u) e = refl
-alike_bare (pointer c v t) (array m u) e = refl
-alike_bare (pointer c v t) (plain other d w) e = refl
-alike_bare (pointer c v t) (pointer d w u) e = refl

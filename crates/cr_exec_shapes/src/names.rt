@@ -1,4 +1,4 @@
-ghost use Rattle.std.specs.Prelude.{◌≡◌, ◌<◌, ◌+◌, ◌*◌, ◌++◌, ℕ, IfOk, IfSome, OnOk, length, slice_index_or};
+ghost use Rattle.std.specs.Prelude.{◌≡◌, ◌<◌, ◌+◌, ◌*◌, ◌++◌, ℕ, true, IfOk, OnOk, length, slice_index_or};
 ghost use Rattle.cr_check_types.specs.Relations.{are_compatible, sizes_agree, IsLeastRow};
 ghost use Rattle.cr_check_types.specs.Types.{type_at, unknown};
 ghost use Rattle.cr_exec_shapes.specs.Open.{is_array, AreListed, listed_if};

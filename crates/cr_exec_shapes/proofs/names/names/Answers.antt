@@ -4,7 +4,8 @@ use Rattle.std.proofs.lemmas.List.{get_or_past}
 use Rattle.cr_check_types.specs.Types.{type_at}
 use Rattle.cr_meaning_operations.specs.Shapes.{name_in}
 use Rattle.cr_exec_shapes.specs.Open.{is_array}
-use Rattle.cr_exec_shapes.proofs.Rows.{beyond, grown}
+use Rattle.cr_check_types.proofs.Tables.{beyond}
+use Rattle.cr_exec_shapes.proofs.Rows.{grown}
 use Rattle.cr_exec_shapes.proofs.Listed.{listed_more}
 use Rattle.cr_exec_shapes.proofs.names.names.Goals as goal
 
