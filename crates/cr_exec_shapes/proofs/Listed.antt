@@ -1,5 +1,5 @@
 -- Rows of a kind, as a list that rises.
-use Rattle.std.proofs.Common.{◌≡◌, ◌<◌, ◌≤◌, ◌+◌, ◌++◌, ◌∷◌, [], ℕ, List, Bool, true, false, inl, inr, refl, sym, ap, ◌∙◌, arith, length, slice_index_or, length-append}
+use Rattle.std.proofs.Common.{◌≡◌, ◌<◌, ◌+◌, ◌++◌, ◌∷◌, [], ℕ, List, Bool, true, false, inl, inr, refl, sym, ap, ◌∙◌, arith, length, slice_index_or, length-append}
 use Rattle.std.proofs.Math.ListN.{get_or-append}
 use Rattle.std.proofs.Math.Seq.{get_or-append_seam}
 use Rattle.std.proofs.lemmas.List.{append-nil}
@@ -8,7 +8,7 @@ use Rattle.cr_check_types.specs.declared.shape.Shape.{Shape}
 use Rattle.cr_check_types.specs.Types.{Qualified, plain, pointer, array, type_at}
 use Rattle.cr_check_types.specs.Relations.{are_compatible}
 use Rattle.cr_check_types.specs.Shared.{IsCanonical}
-use Rattle.cr_exec_shapes.specs.Open.{is_open, is_array, AreListed, IsAmong, listed_if}
+use Rattle.cr_exec_shapes.specs.Open.{is_open, is_array, AreListed, listed_if}
 use Rattle.cr_meaning_operations.specs.Shapes.{unqualified}
 use Rattle.cr_exec_shapes.proofs.Open.{closed_apart}
 

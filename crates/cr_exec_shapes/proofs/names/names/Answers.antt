@@ -1,4 +1,4 @@
-use Rattle.std.proofs.Common.{arith, rules, sym, ap, ◌∙◌, inl, inr, length, slice_index_or}
+use Rattle.std.proofs.Common.{arith, rules, sym, ap, ◌∙◌, inl, inr, length}
 use Rattle.std.proofs.lemmas.Bool.{cases_lt}
 use Rattle.std.proofs.lemmas.List.{get_or_past}
 use Rattle.cr_check_types.specs.Types.{type_at}

@@ -1,4 +1,4 @@
-use Rattle.std.proofs.Common.{◌≡◌, ◌<◌, ℕ, false, inl, inr, ap, sym, ◌∙◌, arith, slice_index_or}
+use Rattle.std.proofs.Common.{◌≡◌, inl, inr, ap, sym, ◌∙◌, arith, slice_index_or}
 use Rattle.std.proofs.lemmas.Bool.{cases_lt}
 use Rattle.cr_check_types.specs.Types.{type_at}
 use Rattle.cr_check_types.specs.Relations.{are_compatible}
