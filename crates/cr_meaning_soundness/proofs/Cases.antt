@@ -461,7 +461,7 @@ updated_number_cased p memory op kind own volatile post at right sound h r =
     (λ old is. cased_then IsNumberValue (changed memory (Arithmetic op kind) old right) _ (changed_cased memory op kind old right is r) (changed_number memory op kind old right)
     (λ result number. changed_back p memory (form.Number own) volatile post at old result tt (as_scalar_number result number))))
 
-pub updated_pointer_cased : (p : Program) (memory : Memory) (back : Bool) (count to : ℕ) (volatile post : Bool) (at : Pointer) (right : Value) → IsSound memory → IsPointer memory at → IsNumberValue right
+pub updated_pointer_cased : (p : Program) (memory : Memory) (back : Bool) (count : Element) (to : ℕ) (volatile post : Bool) (at : Pointer) (right : Value) → IsSound memory → IsPointer memory at → IsNumberValue right
     → Cased (updated p memory (Move back count) (form.Pointer to) volatile post (Place at) right)
 updated_pointer_cased p memory back count to volatile post at right sound h r =
     cased_if (strays 1 at) (Left 5) _ tt

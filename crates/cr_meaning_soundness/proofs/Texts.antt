@@ -79,7 +79,7 @@ text_by_cased memory (suc most) (At object place low high stride) sound h same e
     cased_then (λ held. Holds memory (scalar.Int Char) held × IsRead memory at held) (load_of memory at (scalar.Int Char)) (text_after (text_by memory most (following at)))
     (load_cased memory at (scalar.Int Char)) (both_ok (Holds memory (scalar.Int Char)) (IsRead memory at) (load_of memory at (scalar.Int Char)) (loaded_holds memory at (scalar.Int Char) sound h) (is_read memory at))
     (λ held f. let below = leb-false high place f.1.1 in
-    let one : stride ≡ 1 = same in
+    let one : stride.cells ≡ 1 = same in
     let W : ℕ → Type 0 = λ n. (suc place - low) % n ≡ 0 in
     let V : ℕ → Type 0 = λ n. (high - suc place) % n ≡ 0 in
     let from = h.low_before in
