@@ -6,15 +6,70 @@
 # of each kind that did not; it then ends with status 1.
 # By hand only: bench/casts.sh [COUNT]. CREDUCE=PROGRAM takes another program than the launcher at the top. It needs gcc and clang, and
 # takes some minutes. The programs are the same in each run.
+#
+# bench/casts.sh --csmith COUNT OLD NEW: instead has two built programs rule on the first COUNT programs of csmith's (examples/csmith.sh, by
+# their seeds), and prints those that they don't rule alike: their ends, what they say, and, where both take one, whether the run that
+# they make ends and prints as gcc's does. It then ends with status 1. It needs csmith and its headers.
 set -eu
 top=$(cd "$(dirname "${BASH_SOURCE[0]}")/.." && pwd)
 program=${CREDUCE:-$top/creduce}
-count=${1:-500}
 folder=$(mktemp -d)
 trap 'rm -r "$folder"' EXIT
-export CREDUCE_QUIET=1 LC_ALL=C program
+export CREDUCE_QUIET=1 LC_ALL=C program top
+
+# ---- what two programs say of csmith's
+
+# ruled PROGRAM SEED: the end, what it says, and whether the run is gcc's
+ruled() {
+    local status=0 same=
+    timeout 300 "$1" --limit 0 "has:int main" "$2.c" >"$2.said" 2>&1 || status=$?
+    if [ "$status" = 7 ]; then
+        timeout 300 "$1" --limit 0 "if:and(ends($(cat "$2.end")),prints(\"$(cat "$2.out")\n\"))" "$2.c" >/dev/null 2>&1 || same=$?
+        [ "$same" = 7 ] && same=gcc
+    fi
+    echo "$status${same:+, the run is $same} $(tr '\n' ' ' <"$2.said")"
+}
+
+# compare SEED OLD NEW: alike and lawful, alike and refused, not made, or what differs
+compare() {
+    local seed=$1 one other status=0
+    "$top/examples/csmith.sh" "$seed" >"$seed.c" 2>/dev/null && [ -s "$seed.c" ] && gcc -w -o "$seed.run" "$seed.c" 2>/dev/null || { echo "not made"; return; }
+    timeout 10 "./$seed.run" >"$seed.out" 2>/dev/null || status=$?
+    echo "$status" >"$seed.end"
+    one=$(ruled "$2" "$seed")
+    other=$(ruled "$3" "$seed")
+    rm -f "$seed".*
+    if [ "$one" != "$other" ]; then
+        echo "seed $seed: $one; now $other"
+    elif [ "${one%%[ ,]*}" = 7 ]; then
+        echo "${one%% }"
+    else
+        echo "refused"
+    fi
+}
+
+if [ "${1:-}" = --csmith ]; then
+    [ $# = 4 ] || { echo "casts.sh: --csmith COUNT OLD NEW" >&2; exit 2; }
+    command -v csmith >/dev/null || { echo "casts.sh: csmith isn't installed" >&2; exit 127; }
+    old=$(realpath "$3") new=$(realpath "$4")
+    cd "$folder"
+    export -f ruled compare
+    seq "$2" | xargs -P "$(nproc)" -I {} bash -c 'compare "$1" "$2" "$3"' _ {} "$old" "$new" >all
+    grep '^seed' all || true
+    awk -v count="$2" '/^7/ { taken++ } /^7, the run is gcc/ { same++ } /^refused/ { refused++ } /^not made/ { none++ } /^seed/ { differ++ }
+        END {
+            printf "of %d programs of csmith both take %d, and %d of these runs are those of gcc; ", count, taken, same
+            printf "both refuse %d alike, %d were not made, and %d are ruled otherwise\n", refused, none, differ
+        }' all
+    ! grep -q '^seed' all
+    exit
+fi
+
+count=${1:-500}
 "$program" --limit 0 "has:;" gen:1:1 >/dev/null 2>&1 || true
 cd "$folder"
+
+# A file that is taken, and not yet reduced, ends with the status of a limit, 7.
 
 # ---- the programs, one a line
 
@@ -88,46 +143,48 @@ BEGIN {
 
 # ---- what becomes of one
 
-# lawful and alike, refused, or a line that says what differs
-try_one() {
-    local text=$1 at wanted= found flags k=0 status
-    at=$(mktemp -d -p .)
-    cd "$at"
-    printf '%s\n' "$text" >t.c
-    "$program" --limit 0 "has:int main" t.c >said 2>&1 && status=0 || status=$?
-    if [ "$status" = 4 ] || [ "$status" = 5 ]; then
-        echo "refused"
-    elif [ "$status" != 0 ]; then
-        echo "creduce ended with $status: $text"
-    else
-        for flags in "gcc -O0" "gcc -O2" "clang -O0" "clang -O2" "gcc -O1 -fsanitize=undefined,address" "clang -O1 -fsanitize=undefined,address"; do
-            k=$((k + 1))
-            # shellcheck disable=SC2086
-            if $flags -std=c11 -w -o t t.c 2>/dev/null; then
-                timeout 10 ./t >out 2>err && status=0 || status=$?
-                found="$status $(cat out) $(head -c 200 err)"
-            else
-                found="isn't built"
-            fi
-            [ $k = 1 ] && wanted=$found
-            [ "$found" = "$wanted" ] || { echo "$flags: $found and not $wanted: $text"; return; }
-        done
-        status=${wanted%% *}
-        printf '%s\n' "$text" >t.c
-        if "$program" --limit 0 "if:and(ends($status),prints(\"$(cat out)\n\"))" t.c >said 2>&1; then
-            echo "alike"
+# the end of a ruling on a program of this number: 7 where it is lawful, as nothing is reduced
+rule_one() {
+    local status=0
+    "$program" --limit 0 "has:int main" "$1.c" >/dev/null 2>&1 || status=$?
+    echo "$1 $status"
+}
+
+# a lawful program: alike, or a line that says what differs
+run_one() {
+    local number=$1 wanted= found flags k=0 status
+    for flags in "gcc -O0" "gcc -O2" "clang -O0" "clang -O2" "gcc -O1 -fsanitize=undefined,address" "clang -O1 -fsanitize=undefined,address"; do
+        k=$((k + 1)) status=0
+        # shellcheck disable=SC2086
+        if $flags -std=c11 -w -o "$number.run" "$number.c" 2>/dev/null; then
+            timeout 10 "./$number.run" >"$number.out" 2>"$number.err" || status=$?
+            found="$status $(cat "$number.out") $(head -c 200 "$number.err")"
         else
-            echo "creduce: another end than $wanted: $text"
+            found="isn't built"
         fi
+        [ $k = 1 ] && wanted=$found
+        [ "$found" = "$wanted" ] || { echo "$flags: $found and not $wanted: $(cat "$number.c")"; return; }
+    done
+    status=0
+    "$program" --limit 0 "if:and(ends(${wanted%% *}),prints(\"$(cat "$number.out")\n\"))" "$number.c" >/dev/null 2>&1 || status=$?
+    if [ "$status" = 7 ]; then
+        echo "alike"
+    else
+        echo "creduce: another end than $wanted: $(cat "$number.c")"
     fi
 }
-export -f try_one
+export -f rule_one run_one
 
-made $((count * 3)) | tr '\n' '\0' | xargs -0 -P "$(nproc)" -I {} bash -c 'try_one "$1" 2>/dev/null | head -n 1' _ {} >all || true
-alike=$(grep -c '^alike$' all || true)
-refused=$(grep -c '^refused$' all || true)
-grep -v '^alike$\|^refused$' all | awk '{ kind = $0; sub(/:.*/, "", kind); if (!(kind in least) || length($0) < length(least[kind])) least[kind] = $0; n[kind]++ }
-    END { for (kind in least) print n[kind] " of this kind: " least[kind] }' >differ
+# as many as are wanted, in their order, and how many before the last of them aren't lawful
+made $((count * 3)) | awk '{ print >(NR ".c"); close(NR ".c") }'
+seq $((count * 3)) | xargs -P "$(nproc)" -I {} bash -c 'rule_one "$1"' _ {} | sort -n >ruled
+awk -v count="$count" '$2 == 7 && n < count { n++; print $1 >"lawful" } n < count && ($2 == 4 || $2 == 5) { refused++ }
+    $2 != 4 && $2 != 5 && $2 != 7 { print "the ruling on program " $1 " ended with " $2 >"differ" } END { print refused + 0 >"refused" }' ruled
+touch lawful differ
+xargs -P "$(nproc)" -I {} bash -c 'run_one "$1" 2>/dev/null | head -n 1' _ {} <lawful >all || true
+grep -v '^alike$' all | awk '{ kind = $0; sub(/:.*/, "", kind); if (!(kind in least) || length($0) < length(least[kind])) least[kind] = $0; n[kind]++ }
+    END { for (kind in least) print n[kind] " of this kind: " least[kind] }' >>differ
 cat differ
-echo "$alike lawful programs with casts of pointers ended alike in gcc and clang, in their sanitizers and here; beside them $refused that aren't lawful"
+alike=$(grep -c '^alike$' all || true)
+echo "$alike lawful programs with casts of pointers ended alike in gcc and clang, in their sanitizers and here; among them $(cat refused) aren't lawful"
 [ ! -s differ ] && [ "$alike" -ge "$count" ]

@@ -1,11 +1,9 @@
 -- What nodes do on the world, beside the own work of expressions: the pointers in it stay declared places.
-use Rattle.std.proofs.Common.{◌≡◌, ℕ, zero, suc, ◌+◌, ◌==◌, pos, nat_le, Bool, true, false, is_some, Option, Some, None, Result, Ok, Err, IfOk, List, [], ◌∷◌, ◌++◌, length, map, replicate, slice_get, if◌then◌else◌, refl, sym, ap, ◌∙◌, subst, inl, inr}
+use Rattle.std.proofs.Common.{◌≡◌, ℕ, zero, suc, ◌+◌, pos, nat_le, Bool, true, false, is_some, Option, Some, None, Result, Ok, Err, IfOk, List, [], ◌∷◌, ◌++◌, length, map, replicate, if◌then◌else◌, refl, sym, ap, ◌∙◌, subst, inr}
 use Rattle.std.specs.List.{list_any, zip}
-use Rattle.cr_ints.specs.declared.kind.IntKind.{IntKind}
 use Rattle.cr_ints.specs.declared.kind.IntKind.TheVariants.{Int as IntegerKind}
-use Rattle.cr_ints.specs.Conversions.{convert_of}
 use Rattle.cr_library.specs.declared.piece.Piece.{Piece}
-use Rattle.cr_memory.specs.declared.value.Pointer.TheVariants.{Null, At}
+use Rattle.cr_memory.specs.declared.value.Pointer.TheVariants.{At}
 use Rattle.cr_memory.specs.declared.value.Scalar.{Scalar}
 use Rattle.cr_memory.specs.declared.value.Scalar.TheVariants as scalar
 use Rattle.cr_memory.specs.declared.value.Cell.{Cell}
@@ -13,22 +11,22 @@ use Rattle.cr_memory.specs.declared.value.Cell.TheVariants as cell
 use Rattle.cr_memory.specs.declared.value.Trap.{Trap}
 use Rattle.cr_memory.specs.declared.value.Trap.TheVariants.{Undefined, Left}
 use Rattle.cr_memory.specs.Memory.{Object, Memory, live_object, count_of, has_room}
-use Rattle.cr_memory.specs.Access.{object_at, number_of, with_cells}
-use Rattle.cr_memory.proofs.Continuing.{entered_if_some, continues-refl, continues-onward}
-use Rattle.cr_meaning.specs.Language.{went, halts}
+use Rattle.cr_memory.specs.Access.{number_of, with_cells}
+use Rattle.cr_memory.proofs.Continuing.{entered_if_some, continues-onward}
+use Rattle.cr_meaning.specs.Language.{went}
 use Rattle.cr_meaning.specs.Events.{clash, operands_clash}
 use Rattle.cr_meaning.specs.World.{Program, World, Answer, part, next, broke, continued, jumped, returned, untyped, unused_value, then_by, object_for, with_binding, enter_object, enter_all, automatic, static, marked, closed, unset_again}
-use Rattle.cr_meaning.specs.Values.{kinds_in, converted, cells_of_value, if_fits, as_pointer, scalar_element}
-use Rattle.cr_meaning.specs.Work.{Did, is_nothing, integer, work_of}
-use Rattle.cr_meaning.specs.Library.{Called, char, put_out, formatted, printed, text_at, pieces_of, printf_of, putchar_of, byte_of, exit_of}
-use Rattle.cr_meaning.specs.Nodes.{Act, stops, resulting, entering, value_of, values, last_in, order_of, all_events, events_of, unless_clash, evaluated, expression, converted_all, arguments, deeper, begun, called, enter_parameters, result_of, shallower, ended_call, after_library, library, call_end, element_of, elements_of, initial, set_parts, unused_in, initials, with_parts, zeroed, initialised, on_object}
-use Rattle.cr_meaning.specs.Meaning.{controlled, stepped, opened, opened_if, switched, strings_of, main_entered, program_before, for_before, switch_before, block_before, control_before, do_before, call_before, before_by, after_loop, after_switch, if_end, while_end, do_end, for_end, switch_end, return_end, program_end, join_by}
+use Rattle.cr_meaning.specs.Values.{kinds_in, converted, cells_of_value, as_pointer, scalar_element}
+use Rattle.cr_meaning.specs.Work.{is_nothing, integer, work_of}
+use Rattle.cr_meaning.specs.Library.{Called, put_out, formatted, printed, text_at, pieces_of, printf_of, putchar_of, byte_of, exit_of}
+use Rattle.cr_meaning.specs.Nodes.{Act, stops, resulting, entering, value_of, values, last_in, order_of, all_events, events_of, evaluated, expression, converted_all, arguments, deeper, begun, called, enter_parameters, result_of, after_library, library, call_end, element_of, elements_of, initial, set_parts, unused_in, initials, with_parts, zeroed, initialised, on_object}
+use Rattle.cr_meaning.specs.Meaning.{stepped, opened, opened_if, strings_of, main_entered, program_before, for_before, switch_before, block_before, control_before, do_before, call_before, before_by, after_loop, after_switch, if_end, while_end, do_end, for_end, switch_end, return_end, program_end, join_by}
 use Rattle.cr_meaning.specs.declared.op.Op.{Op}
 use Rattle.cr_meaning.specs.declared.op.Form.{Form}
 use Rattle.cr_meaning.specs.declared.op.Line.{Line}
 use Rattle.cr_meaning.specs.declared.op.Parameter.{Parameter}
 use Rattle.cr_meaning.specs.declared.op.Callee.{Callee}
-use Rattle.cr_meaning.specs.declared.op.Callee.TheVariants.{Function, Printf, Putchar, Exit, Abort}
+use Rattle.cr_meaning.specs.declared.op.Callee.TheVariants.{Function, Printf, Putchar, Exit}
 use Rattle.cr_meaning.specs.declared.op.Work.{Work}
 use Rattle.cr_meaning.specs.declared.op.Work.TheVariants as work
 use Rattle.cr_meaning.specs.declared.value.Value.{Value}
@@ -43,7 +41,7 @@ use Rattle.cr_meaning_places.specs.Laws.{HasPlainLiterals}
 use Rattle.cr_meaning_places.proofs.Lasting.{Lasts, lasts_by, live_again}
 use Rattle.cr_meaning_places.proofs.Good.{GoodCell, GoodCells, GoodValue, GoodValues, GoodAnswer, GoodAnswers, AreGood, cells_later, value_later, answer_later, values_good, last_good, good_in, cells_of_good}
 use Rattle.cr_meaning_places.proofs.Memories.{Changed, unchanged, good_written}
-use Rattle.cr_meaning_places.proofs.Entering.{IsThere, IsSound, Onward, stays, onward_then, onward_changed, new_shape, object_enters, zeros_good, automatic_made, static_made, all_enter, parameters_enter, values_later, marked_sound, closes, found}
+use Rattle.cr_meaning_places.proofs.Entering.{IsThere, IsSound, Onward, stays, onward_then, onward_changed, new_shape, object_enters, zeros_good, automatic_made, static_made, all_enter, parameters_enter, marked_sound, closes, found}
 use Rattle.cr_meaning_places.proofs.Working.{IsGiven, given_any, IsNode, Worked, converted_good, any_then, Before, works}
 
 -- what an answer at a node's end is, in the world that it leaves

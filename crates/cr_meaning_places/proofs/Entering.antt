@@ -1,21 +1,17 @@
 -- Objects of nodes: they are entered, they live while they are bound, and they end with their block or call.
-use Rattle.std.proofs.Common.{◌≡◌, ◌≢◌, ℕ, zero, suc, ◌+◌, ◌<◌, ◌≤◌, ◌==◌, Bool, true, false, is_some, ◌⊎◌, inl, inr, Option, Some, None, Result, Ok, Err, IfOk, List, [], ◌∷◌, ◌++◌, length, map, get_or, if◌then◌else◌, refl, sym, ap, ◌∙◌, subst, arith}
+use Rattle.std.proofs.Common.{◌≡◌, ℕ, ◌<◌, ◌≤◌, ◌==◌, Bool, true, false, is_some, inl, Option, Some, None, Result, Ok, Err, IfOk, List, [], ◌∷◌, length, map, if◌then◌else◌, refl, sym, ap, ◌∙◌, subst, arith}
 use Rattle.std.specs.List.{AllByRecursion}
 use Rattle.std.proofs.lemmas.Bool.{eqb-true}
 use Rattle.std.proofs.lemmas.List.{get_or_push, length_push}
-use Rattle.cr_memory.specs.declared.value.Pointer.{Pointer}
-use Rattle.cr_memory.specs.declared.value.Pointer.TheVariants.{Null, At}
 use Rattle.cr_memory.specs.declared.value.Scalar.{Scalar}
 use Rattle.cr_memory.specs.declared.value.Scalar.TheVariants as scalar
 use Rattle.cr_memory.specs.declared.value.Cell.{Cell}
 use Rattle.cr_memory.specs.declared.value.Cell.TheVariants as cell
 use Rattle.cr_memory.specs.declared.value.Guard.{Guard}
-use Rattle.cr_memory.specs.declared.value.Guard.TheVariants.{Free}
 use Rattle.cr_memory.specs.declared.value.Trap.{Trap}
 use Rattle.cr_memory.specs.declared.value.Trap.TheVariants.{Left}
-use Rattle.cr_memory.specs.Memory.{Object, Memory, live_object, zero_of, first_cell, new_object, has_room, with_object, without_object}
-use Rattle.cr_memory.specs.Access.{some_object}
-use Rattle.cr_memory.specs.Continues.{IsAsBefore, Continues, ContinuesBeside}
+use Rattle.cr_memory.specs.Memory.{Object, Memory, live_object, zero_of, first_cell, has_room, with_object, without_object}
+use Rattle.cr_memory.specs.Continues.{IsAsBefore, Continues}
 use Rattle.cr_memory.proofs.Continuing.{entered_if_some, with_object-continues, without_object-continues}
 use Rattle.cr_meaning.specs.World.{Program, World, Binding, bound, mark, object_for, with_binding, enter_object, enter_all, automatic, literal_or, static, marked, left_by, closed}
 use Rattle.cr_meaning.specs.declared.op.Parameter.{Parameter}
@@ -24,8 +20,8 @@ use Rattle.cr_meaning.specs.Nodes.{with_argument, enter_parameters}
 use Rattle.cr_meaning_soundness.proofs.Worlds.{some_is_one, entered_then, ok_map}
 use Rattle.cr_meaning_places.specs.Places.{HasShape, IsObjectOf, null}
 use Rattle.cr_meaning_places.specs.Laws.{IsPlain, HasPlainLiterals}
-use Rattle.cr_meaning_places.proofs.Lasting.{Lasts, lasts_refl, lasts_onward, lasts_by, lasts_without, live_again, object_later, strings_later}
-use Rattle.cr_meaning_places.proofs.Good.{GoodCell, GoodCells, GoodValues, AreGood, cells_later, cells_of_good, value_later}
+use Rattle.cr_meaning_places.proofs.Lasting.{Lasts, lasts_refl, lasts_onward, lasts_by, lasts_without, live_again, object_later}
+use Rattle.cr_meaning_places.proofs.Good.{GoodCell, GoodCells, GoodValues, AreGood, cells_of_good, value_later}
 use Rattle.cr_meaning_places.proofs.Memories.{Changed, good_with, good_without}
 
 -- ---- bound objects live, and the later a binding the higher its object

@@ -1,6 +1,5 @@
 -- Values and cells whose pointers are declared places.
-use Rattle.std.proofs.Common.{◌≡◌, ℕ, zero, suc, Option, Some, None, List, [], ◌∷◌, get_or, set, take, drop, refl, sym, ap, subst}
-use Rattle.cr_memory.specs.declared.value.Pointer.{Pointer}
+use Rattle.std.proofs.Common.{◌≡◌, ℕ, zero, suc, Option, Some, None, List, [], ◌∷◌, get_or, set, take, drop, refl}
 use Rattle.cr_memory.specs.declared.value.Scalar.{Scalar}
 use Rattle.cr_memory.specs.declared.value.Scalar.TheVariants as scalar
 use Rattle.cr_memory.specs.declared.value.Cell.{Cell}

@@ -1,13 +1,12 @@
 -- Objects that were entered, while a run goes on: their shapes stay, and some end.
-use Rattle.std.proofs.Common.{◌≡◌, ℕ, ◌<◌, ◌≤◌, is_some, true, inl, inr, ◌⊎◌, Option, Some, None, Ok, List, [], ◌∷◌, length, refl, sym, ap, ◌∙◌, subst, arith, length-set}
+use Rattle.std.proofs.Common.{◌≡◌, ℕ, ◌<◌, ◌≤◌, is_some, true, inl, inr, Option, Some, None, List, length, refl, sym, ap, ◌∙◌, arith, length-set}
 use Rattle.std.proofs.lemmas.Bool.{cases_eq}
 use Rattle.cr_memory.specs.declared.value.Pointer.{Pointer}
 use Rattle.cr_memory.specs.declared.value.Scalar.{Scalar}
 use Rattle.cr_memory.specs.declared.value.Guard.{Guard}
 use Rattle.cr_memory.specs.Memory.{Object, Memory, live_object, without_object}
 use Rattle.cr_memory.specs.Access.{some_object}
-use Rattle.cr_memory.specs.Continues.{IsAsBefore, Continues}
-use Rattle.cr_memory.proofs.Continuing.{entered_if_some}
+use Rattle.cr_memory.specs.Continues.{Continues}
 use Rattle.cr_meaning.specs.World.{Program}
 use Rattle.cr_meaning_soundness.proofs.Worlds.{gone}
 use Rattle.cr_meaning_places.specs.Places.{HasShape, AreStrings, IsObjectOf, IsDeclared, null, whole, strings, member, pointed, first, moved}

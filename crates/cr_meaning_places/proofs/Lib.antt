@@ -7,3 +7,4 @@ pub mod Ways
 pub mod Acting
 pub mod Running
 pub mod Own
+pub mod Units

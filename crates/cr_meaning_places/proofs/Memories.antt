@@ -1,14 +1,10 @@
 -- Memories that are written, and objects that are entered and left: all pointers in them stay declared places.
-use Rattle.std.proofs.Common.{◌≡◌, ◌≢◌, ℕ, ◌<◌, ◌≤◌, Bool, true, false, is_none, ◌⊎◌, inl, inr, Option, Some, None, Result, Ok, Err, IfOk, List, [], ◌∷◌, ◌++◌, length, get_or, set, refl, sym, ap, ◌∙◌, subst, arith, get_or-set_other, get_or-set_same}
+use Rattle.std.proofs.Common.{◌≡◌, ◌≢◌, ℕ, false, ◌⊎◌, inl, inr, Some, None, IfOk, List, [], ◌∷◌, length, get_or, sym, ap, ◌∙◌, subst, get_or-set_other, get_or-set_same}
 use Rattle.std.specs.List.{list_any}
 use Rattle.std.proofs.lemmas.Bool.{cases_eq}
-use Rattle.std.proofs.lemmas.List.{get_or_push, length_push}
 use Rattle.cr_memory.specs.declared.value.Pointer.{Pointer}
 use Rattle.cr_memory.specs.declared.value.Scalar.{Scalar}
 use Rattle.cr_memory.specs.declared.value.Cell.{Cell}
-use Rattle.cr_memory.specs.declared.value.Guard.{Guard}
-use Rattle.cr_memory.specs.declared.value.Trap.{Trap}
-use Rattle.cr_memory.specs.declared.value.Trap.TheVariants.{Undefined}
 use Rattle.cr_memory.specs.Kind.{is_same}
 use Rattle.cr_memory.specs.Memory.{Object, Memory, live_object, has_ended, with_object, without_object}
 use Rattle.cr_memory.specs.Access.{is_null_or_end, is_literal, is_constant, number_of, cell_of, shape_at, shape_run_at, have_kinds, overwritten, with_cells, save_of, put_of}

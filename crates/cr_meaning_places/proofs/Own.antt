@@ -1,5 +1,5 @@
 -- A scalar is read and written as the kind that its cell has: the memory looks at it, and gives no answer otherwise (N5).
-use Rattle.std.proofs.Common.{◌≡◌, ℕ, Bool, true, false, Option, Some, None, Result, Ok, Err, IfOk, List, [], ◌∷◌, map, if◌then◌else◌, refl, sym, ap, ◌∙◌, subst}
+use Rattle.std.proofs.Common.{◌≡◌, ℕ, Bool, true, false, Some, Result, Ok, Err, IfOk, List, [], ◌∷◌, map, if◌then◌else◌, sym, ap, subst}
 use Rattle.cr_ints.specs.declared.kind.IntKind.TheVariants.{Int as IntegerKind}
 use Rattle.std.specs.Prelude.{pos}
 use Rattle.cr_memory.specs.declared.value.Pointer.{Pointer}
@@ -8,18 +8,18 @@ use Rattle.cr_memory.specs.declared.value.Scalar.TheVariants as scalar
 use Rattle.cr_memory.specs.declared.value.Cell.{Cell}
 use Rattle.cr_memory.specs.declared.value.Cell.TheVariants as cell
 use Rattle.cr_memory.specs.declared.value.Trap.{Trap}
-use Rattle.cr_memory.specs.declared.value.Trap.TheVariants.{Undefined, Left}
+use Rattle.cr_memory.specs.declared.value.Trap.TheVariants.{Left}
 use Rattle.cr_memory.specs.Kind.{is_same}
 use Rattle.cr_memory.specs.Memory.{Memory, has_ended}
 use Rattle.cr_memory.specs.Access.{is_null_or_end, is_literal, is_constant, number_of, cell_of, cell_at, shape_at, holds_ended, is_unset, with_cells, load_of, save_of}
 use Rattle.cr_memory.proofs.Reaching.{loaded_by}
 use Rattle.cr_memory.proofs.Storing.{writing-ok}
-use Rattle.cr_meaning.specs.Language.{went, halts}
+use Rattle.cr_meaning.specs.Language.{went}
 use Rattle.cr_meaning.specs.Events.{operands_clash}
 use Rattle.cr_meaning.specs.World.{Program, World, Answer, then_by}
 use Rattle.cr_meaning.specs.Values.{cells_in, strays, converted, changed}
 use Rattle.cr_meaning.specs.Work.{Did, used, stored, assigned, did_assign, loaded, updated, did_update, work_of}
-use Rattle.cr_meaning.specs.Nodes.{Act, resulting, values, events_of, order_of, evaluated, unless_clash, expression}
+use Rattle.cr_meaning.specs.Nodes.{Act, resulting, values, events_of, order_of, evaluated}
 use Rattle.cr_meaning.specs.declared.op.Op.{Op}
 use Rattle.cr_meaning.specs.declared.op.Access.{Access}
 use Rattle.cr_meaning.specs.declared.op.Access.TheVariants as access
@@ -29,7 +29,7 @@ use Rattle.cr_meaning.specs.declared.op.Form.TheVariants as form
 use Rattle.cr_meaning.specs.declared.op.Work.{Work}
 use Rattle.cr_meaning.specs.declared.op.Work.TheVariants as work
 use Rattle.cr_meaning.specs.declared.value.Value.{Value}
-use Rattle.cr_meaning.specs.declared.value.Value.TheVariants.{Nothing, Number, Pointer as Pointing, Place, Cells}
+use Rattle.cr_meaning.specs.declared.value.Value.TheVariants.{Number, Pointer as Pointing, Place, Cells}
 use Rattle.cr_meaning_soundness.proofs.Pointers.{ok_then, ok_unless}
 use Rattle.cr_meaning_places.specs.Laws
 use Rattle.cr_meaning_places.specs.Laws.{place_given, scalar_of, Accesses, reads, assigns, steps, updates}

@@ -1,18 +1,18 @@
 -- Every goal that is asked in a run finds its pointers to be declared places.
-use Rattle.std.proofs.Common.{◌≡◌, ℕ, Bool, true, false, not, Option, Some, None, Result, Ok, Err, List, [], ◌∷◌, ◌++◌, ◌≤◌, zero, suc, inl, inr, get_or, slice_get, refl, sym, ◌∙◌, subst, arith}
+use Rattle.std.proofs.Common.{◌≡◌, ℕ, Bool, true, false, Option, Some, None, List, [], ◌∷◌, ◌++◌, ◌≤◌, zero, suc, inl, inr, get_or, slice_get, refl, sym, ◌∙◌, subst, arith}
 use Rattle.std.proofs.lemmas.List.{get_or_past}
 use Rattle.cr_memory.specs.Memory.{Object, Memory}
 use Rattle.cr_memory.specs.declared.value.Pointer.{Pointer}
 use Rattle.cr_memory.specs.declared.value.Scalar.{Scalar}
-use Rattle.cr_meaning.specs.Language.{Acted, went, halts, Reply, gave, ended, Prog, give, act, call, Runs}
-use Rattle.cr_meaning.specs.World.{Program, World, Answer, Halt, untyped}
+use Rattle.cr_meaning.specs.Language.{Acted, went, halts, Reply, gave, ended, give, call}
+use Rattle.cr_meaning.specs.World.{Program, World, Answer, Halt}
 use Rattle.cr_meaning.specs.Turns.{Way, Operand, Enter, Resume, Ready, next_of}
-use Rattle.cr_meaning.specs.Nodes.{Act, stops, value_of, values}
+use Rattle.cr_meaning.specs.Nodes.{Act, value_of, values}
 use Rattle.cr_meaning.specs.Meaning.{body, Goal, reach, operands, Meaning, with_part, on_way, at_op, takes_step, stepped, reached_by, reached, before_by, join_by, root_of, start_of}
 use Rattle.cr_meaning.specs.declared.op.Op.{Op}
 use Rattle.cr_meaning.specs.declared.run.Limits.{Limits}
 use Rattle.cr_meaning_soundness.proofs.Lasting.{OnActed, Holds, held}
-use Rattle.cr_meaning_soundness.proofs.Expressions.{anything, Went}
+use Rattle.cr_meaning_soundness.proofs.Expressions.{Went}
 use Rattle.cr_meaning_places.specs.Courses.{Asks, here, within, behind, acted}
 use Rattle.cr_meaning.specs.declared.value.Value.{Value}
 use Rattle.cr_meaning.specs.declared.value.Value.TheVariants.{Place}
@@ -22,7 +22,7 @@ use Rattle.cr_meaning_places.specs.Places.{IsDeclared}
 use Rattle.cr_meaning_places.proofs.Lasting.{lasts_refl}
 use Rattle.cr_meaning_places.proofs.Good.{GoodValues, GoodAnswers, answers_later, values_good}
 use Rattle.cr_meaning_places.proofs.Entering.{IsSound, Onward, stays, onward_then}
-use Rattle.cr_meaning_places.proofs.Working.{IsGiven, IsNode, Before, placed}
+use Rattle.cr_meaning_places.proofs.Working.{IsGiven, Before, placed}
 use Rattle.cr_meaning_places.proofs.Ways.{IsGoodWay, good_more, good_way, before_none, before_part, before_entered, before_resumed}
 use Rattle.cr_meaning_places.proofs.Acting.{Answered, before_goes, join_goes}
 

@@ -1,8 +1,8 @@
 -- How nodes go on: with which part, and with which answers.
-use Rattle.std.proofs.Common.{◌≡◌, ℕ, zero, suc, Bool, true, false, Option, Some, None, List, [], ◌∷◌, ◌++◌, length, drop, replicate, slice_get, if◌then◌else◌, refl, sym, subst}
+use Rattle.std.proofs.Common.{◌≡◌, ℕ, zero, suc, Bool, Option, Some, None, List, [], ◌∷◌, ◌++◌, length, drop, replicate, slice_get}
 use Rattle.cr_ints.specs.declared.kind.IntKind.{IntKind}
 use Rattle.cr_memory.specs.Memory.{Memory}
-use Rattle.cr_meaning.specs.World.{Program, Answer, part, next, jumped}
+use Rattle.cr_meaning.specs.World.{Program, Answer, next, jumped}
 use Rattle.cr_meaning.specs.Turns.{Way, Operand, Enter, Resume, Ready, operand, entering, in_turn, choose, answer_truth, and_next, or_next, conditional_next, body_next, call_next, last_of, item_at, from_item, resume_at, after_item, block_next, case_for, switch_next, goes_on, if_next, while_next, do_next, absent, operand_or, for_next, program_next, next_by}
 use Rattle.cr_meaning.specs.Nodes.{value_of, values}
 use Rattle.cr_meaning.specs.declared.op.Callee.{Callee}
@@ -11,8 +11,8 @@ use Rattle.cr_meaning.specs.declared.op.Case.{Case}
 use Rattle.cr_meaning.specs.declared.op.Target.{Target}
 use Rattle.cr_meaning.specs.declared.op.Work.{Work}
 use Rattle.cr_meaning.specs.declared.op.Work.TheVariants as work
-use Rattle.cr_meaning_soundness.proofs.Loops.{by_operand, by_entering, by_choice, by_test}
-use Rattle.cr_meaning_places.proofs.Good.{GoodAnswer, GoodAnswers}
+use Rattle.cr_meaning_soundness.proofs.Loops.{by_choice, by_test}
+use Rattle.cr_meaning_places.proofs.Good.{GoodAnswers}
 use Rattle.cr_meaning_places.proofs.Working.{IsGiven, Before}
 
 -- ---- answers

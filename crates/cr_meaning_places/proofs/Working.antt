@@ -1,5 +1,5 @@
 -- A node's own work: the pointers of its value, and what it writes, are declared places.
-use Rattle.std.proofs.Common.{◌≡◌, ℕ, ◌==◌, Bool, true, false, not, ◌&&◌, ◌||◌, ℤ, pos, ◌⊎◌, inl, inr, Option, Some, None, Result, Ok, Err, IfOk, List, [], ◌∷◌, length, take, drop, slice_get, if◌then◌else◌, refl, sym, ap, ◌∙◌, subst}
+use Rattle.std.proofs.Common.{◌≡◌, ℕ, ◌==◌, Bool, true, false, not, ◌&&◌, ◌||◌, ℤ, pos, ◌⊎◌, inl, inr, Option, Some, None, Result, Ok, Err, IfOk, List, [], ◌∷◌, length, take, drop, slice_get, if◌then◌else◌, refl, sym, subst}
 use Rattle.std.specs.Prelude.{int_le, unsigned_abs, ◌+ℤ◌, ◌*ℤ◌}
 use Rattle.std.proofs.lemmas.Bool.{eqb-true}
 use Rattle.cr_ints.specs.declared.kind.IntKind.{IntKind}
@@ -18,12 +18,12 @@ use Rattle.cr_memory.specs.declared.value.Trap.{Trap}
 use Rattle.cr_memory.specs.declared.value.Trap.TheVariants.{Undefined, Left}
 use Rattle.cr_memory.specs.declared.value.TheConstants.{SUM_OUTSIDE, ENDED, NULL_OR_END, OTHER_TYPE}
 use Rattle.cr_memory.specs.Kind.{is_same}
-use Rattle.cr_memory.specs.Memory.{Object, Memory, live_object, count_of, has_ended}
+use Rattle.cr_memory.specs.Memory.{Memory, live_object, count_of, has_ended}
 use Rattle.cr_memory.specs.Access.{is_null_or_end, number_of, cell_of, cell_at, shape_at, shape_run_at, cells_at, holds_ended, is_unset, have_kinds, reach_of, load_of, cells_of}
 use Rattle.cr_memory.specs.Pointers.{moved_by, differ_of, less_of, same_of}
 use Rattle.cr_memory.proofs.Reaching.{loaded_by}
-use Rattle.cr_meaning.specs.World.{Program, World, then_by, object_for, whole_place}
-use Rattle.cr_meaning.specs.Values.{cells_in, misfits, strays, value_in, truth, asked, if_lives, is_null, converted, exactly, computed, signed_by, compares, moved, moved_either, changed, pointing, as_pointer, with_pointers, holding, related, misfit_value, if_both_fit, distance}
+use Rattle.cr_meaning.specs.World.{Program, World, then_by, object_for}
+use Rattle.cr_meaning.specs.Values.{cells_in, misfits, strays, value_in, asked, converted, exactly, computed, signed_by, compares, moved, moved_either, changed, pointing, as_pointer, with_pointers, holding, related, misfit_value, if_both_fit, distance}
 use Rattle.cr_meaning.specs.Work.{Did, plainly, giving, used, at_place, place_of, first_element, inner, inner_of, taken, member_of, followed, stored, assigned, did_assign, did_update, loaded, updated, is_nothing, logical, is_void, conditional, cast, integer, comparison, address, alone, passed, on_one, on_two, by_count, work_of}
 use Rattle.cr_meaning.specs.declared.op.Op.{Op}
 use Rattle.cr_meaning.specs.declared.op.Access.{Access}
@@ -46,9 +46,9 @@ use Rattle.cr_meaning_soundness.proofs.Pointers.{ok_then, ok_unless, ok_any}
 use Rattle.cr_meaning_places.specs.Places.{IsTo, Names, Gives, named, passed as passed_on, IsDeclared, null, whole, member, pointed, first, moved as moved_on}
 use Rattle.cr_meaning_places.specs.Laws.{place_given}
 use Rattle.cr_meaning_places.proofs.Lasting.{lasts_by}
-use Rattle.cr_meaning_places.proofs.Good.{GoodCell, GoodCells, GoodValue, GoodValues, AreGood, good_taken, good_dropped, good_at, good_in, value_in_good, cells_of_good, value_later}
+use Rattle.cr_meaning_places.proofs.Good.{GoodCell, GoodCells, GoodValue, GoodValues, AreGood, good_taken, good_dropped, good_at, good_in, value_in_good, value_later}
 use Rattle.cr_meaning_places.proofs.Memories.{Changed, unchanged, good_saved, good_put}
-use Rattle.cr_meaning_places.proofs.Entering.{IsThere, AllBound, IsSound, found}
+use Rattle.cr_meaning_places.proofs.Entering.{IsThere, IsSound, found}
 
 -- ---- what is said of the type of a place
 

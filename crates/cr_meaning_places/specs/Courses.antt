@@ -1,6 +1,6 @@
 -- What a run comes by: the goals that are asked in it, each in the world of its moment.
 use Rattle.std.specs.Prelude.{◌≡◌}
-use Rattle.cr_meaning.specs.Language.{Acted, went, Reply, gave, Prog, act, call, Runs}
+use Rattle.cr_meaning.specs.Language.{Acted, went, gave, Prog, act, call, Runs}
 
 pub data Asks {G V W H : Type 0} (body : G → Prog G V W H) : Prog G V W H → W → G → W → Type 0 where
   here : {g : G} {k : V → Prog G V W H} {s : W} → Asks body (call g k) s g s

@@ -24,6 +24,9 @@ use Rattle.cr_meaning.specs.declared.op.Work.{Work}
 use Rattle.cr_meaning.specs.declared.op.Work.TheVariants as work
 use Rattle.cr_meaning.specs.declared.value.Value.{Value}
 use Rattle.cr_meaning.specs.declared.value.Value.TheVariants.{Place}
+use Rattle.cr_meaning.specs.declared.run.Limits.{Limits}
+use Rattle.cr_meaning_operations.specs.Operations.{program_of}
+use Rattle.cr_typed.specs.declared.typed.Typed.{Typed}
 use Rattle.cr_meaning_places.specs.Places.{IsDeclared}
 use Rattle.cr_meaning_places.specs.Courses.{Asks}
 
@@ -82,3 +85,9 @@ PlacesAreDeclared = (p : Program) → HasPlainLiterals p → (node : ℕ) (op : 
 abbrev pub ScalarsAreOwn : Type 0
 ScalarsAreOwn = (p : Program) (node : ℕ) (done : List Answer) (world new : World) (op : Op) (answer : Answer) (at : Pointer) (kind : Scalar)
     → Accesses p world op (values done) at kind → expression p node op done world ≡ went answer new → is_same (shape_at world.memory at).0 kind ≡ true
+
+-- the same of the program of a typed unit, so of each file that breaks no constraint
+abbrev pub UnitsHaveDeclaredPlaces : Type 0
+UnitsHaveDeclaredPlaces = (t : Typed) (limits : Limits) (node : ℕ) (op : Op) (done : List Answer) (world : World) → IsAsked (program_of t limits) node op done world → (at : Pointer)
+    → ((kind : Scalar) × Accesses (program_of t limits) world op (values done) at kind) ⊎ Copies (program_of t limits) world op (values done) at
+    → IsDeclared (program_of t limits) world.memory at

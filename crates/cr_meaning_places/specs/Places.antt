@@ -1,5 +1,5 @@
 -- Where places come from (C11 6.5p7): from an object as it was declared, by the members and elements of its type.
-use Rattle.std.specs.Prelude.{◌≡◌, ℕ, ◌<◌, ◌==◌, ℤ, true, false, Option, Some, Ok, List, [], ◌∷◌, length, slice_get, ◌⊎◌}
+use Rattle.std.specs.Prelude.{◌≡◌, ℕ, ◌<◌, ◌==◌, ℤ, true, false, Some, Ok, List, [], ◌∷◌, length, slice_get, ◌⊎◌}
 use Rattle.cr_memory.specs.declared.value.Element.{Element}
 use Rattle.cr_memory.specs.declared.value.Pointer.{Pointer}
 use Rattle.cr_memory.specs.declared.value.Pointer.TheVariants.{Null, At}

@@ -12,7 +12,7 @@ use Rattle.cr_memory.specs.declared.value.Cell.TheVariants.{Unset, Number, Point
 use Rattle.cr_memory.specs.declared.value.Guard.{Guard}
 use Rattle.cr_memory.specs.declared.value.Guard.TheVariants.{Free}
 use Rattle.cr_memory.specs.declared.value.Trap.TheVariants.{Undefined, Left}
-use Rattle.cr_memory.specs.declared.value.TheConstants.{NULL_OR_END, ENDED, UNSET, OTHER_TYPE}
+use Rattle.cr_memory.specs.declared.value.TheConstants.{NULL_OR_END, ENDED, OTHER_TYPE}
 use Rattle.cr_memory.specs.Kind.{is_same}
 use Rattle.cr_memory.specs.Memory.{Object, Memory, IsPointer, Holds, AllHold, live_object, count_of, has_ended}
 use Rattle.cr_memory.specs.Access.{some_object, is_null_or_end, is_literal, is_constant, is_unset, holds_ended, number_of, cell_of, cell_at, shape_at, cells_at, shape_run_at, have_kinds, overwritten, with_cells, load_of, save_of, put_of, cells_of, HasStride}
