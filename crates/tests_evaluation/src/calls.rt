@@ -89,13 +89,15 @@ fn texts(alloc: Global, words: &str) -> Result<Vec<bool>, AllocError> {
 // The same place as one of chars.
 fn to_chars(value: Value) -> Value {
     match value {
-        Value::Pointer(Pointer::At {
-            object,
-            cell,
-            low,
-            high,
-            ..
-        }) => Value::Pointer(Pointer::At {
+        Value::Pointer(
+            Pointer::At {
+                object,
+                cell,
+                low,
+                high,
+                ..
+            },
+        ) => Value::Pointer(Pointer::At {
             object,
             cell,
             low,
