@@ -3,7 +3,7 @@ ghost use Rattle.std.specs.Prelude.{◌≡◌, IfSome, List};
 ghost use Rattle.std.specs.List.{AllZip};
 ghost use Rattle.cr_meaning.specs.World.{Answer};
 ghost use Rattle.cr_meaning.specs.Nodes.{entering, deeper, last_in};
-ghost use Rattle.cr_meaning.specs.Values.{scalar_element};
+ghost use Rattle.cr_meaning.specs.Values.{scalar_name, scalar_element};
 ghost use Rattle.cr_meaning.specs.Meaning.{main_entered, program_before, program_end};
 ghost use Rattle.cr_eval.specs.Table.{program_of};
 ghost use Rattle.cr_exec_slices.specs.Shown.{Worked};
@@ -22,14 +22,24 @@ use cr_ints::IntKind;
 use cr_meaning::{Parameter, Value};
 use cr_memory::{Cell, Element, Guard, Pointer, Scalar, place_of};
 
-/// A scalar as an element, where its name isn't too large.
+/// What names a scalar, where its name isn't too large.
+fn scalar_name(kind: Scalar) -> Option<u32>
+    ensures { IfSome result (λ name. name ≡ scalar_name kind) }
+{
+    match kind {
+        Scalar::Int(kind) => Some(place_of(kind)),
+        Scalar::Pointer(to) => {
+            let name = to.checked_mul(3)?.checked_add(12)?;
+            Some(name)
+        }
+    }
+}
+
+/// A scalar as an element.
 fn scalar_element(kind: Scalar) -> Option<Element>
     ensures { IfSome result (λ element. element ≡ scalar_element kind) }
 {
-    let of = match kind {
-        Scalar::Int(kind) => place_of(kind),
-        Scalar::Pointer(to) => to.checked_mul(3)?.checked_add(12)?,
-    };
+    let of = scalar_name(kind)?;
     Some(Element { cells: 1, of })
 }
 
