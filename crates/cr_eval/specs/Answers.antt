@@ -33,5 +33,5 @@ leaving memory (Err trap) = Err trap
 
 -- the object that was entered last for the node of an identifier or a literal
 abbrev pub IsFound : Work → List Binding → Option ℕ → Type 0
-IsFound (work.Object node) bindings object = object_for bindings node ≡ object
+IsFound (work.Object node of) bindings object = object_for bindings node ≡ object
 IsFound other bindings object = Unit {0}

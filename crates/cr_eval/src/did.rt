@@ -1,3 +1,5 @@
+#![tactic(auto, using(crate::proofs::Answering::answers, crate::proofs::Answering::then_answers, crate::proofs::Answering::ends_answer, crate::proofs::Answering::written))]
+
 ghost use Rattle.std.specs.Prelude.{◌≡◌};
 
 use cr_meaning::Value;

@@ -1,3 +1,5 @@
+#![tactic(auto, using(crate::proofs::Answering::answers, crate::proofs::Answering::then_answers, crate::proofs::Answering::ends_answer, crate::proofs::Answering::written))]
+
 ghost use Rattle.std.specs.Prelude.{◌≡◌, ◌↔◌, IsTrue, Ok};
 ghost use Rattle.cr_ints.specs.IntKind.{IsInteger};
 ghost use Rattle.cr_meaning.specs.Values.{exactly, computed, signed_by, compares};

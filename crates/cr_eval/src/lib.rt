@@ -2,7 +2,7 @@
 //! the number of these. Each answers what the meaning gives, the value with what the node reads and writes by itself, or the first
 //! case of undefined behaviour or of leaving the profile; no call requires anything, and only structures take memory. What the work
 //! needs of types and objects stands in a `Table`, made once for a program. It stands on the meaning and the memory.
-#![tactic(auto, using(crate::proofs::Answering::answers, crate::proofs::Answering::then_answers, crate::proofs::Answering::ends_answer, crate::proofs::Answering::written))]
+#![tactic(auto)]
 
 mod did;
 mod integers;

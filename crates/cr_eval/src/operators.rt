@@ -1,3 +1,5 @@
+#![tactic(auto, using(crate::proofs::Answering::answers, crate::proofs::Answering::then_answers, crate::proofs::Answering::ends_answer, crate::proofs::Answering::written))]
+
 ghost use Rattle.std.specs.Prelude.{◌≡◌, ◌&&◌, ◌||◌, not, Bool, [], ◌∷◌};
 ghost use Rattle.cr_ints.specs.IntKind.{IsInteger};
 ghost use Rattle.cr_ints.specs.Conversions.{convert_of};
@@ -50,9 +52,7 @@ pub(crate) fn changed(
 {
     match change {
         Change::Arithmetic(op, kind) => arithmetic(store, op, kind, left, right),
-        Change::Move(back, cells) => Ok(Value::Pointer(moved_either(
-            store, back, cells, left, right,
-        )?)),
+        Change::Move(back, own) => Ok(Value::Pointer(moved_either(store, back, own, left, right)?)),
     }
 }
 

@@ -1,18 +1,20 @@
+#![tactic(auto, using(crate::proofs::Answering::answers, crate::proofs::Answering::then_answers, crate::proofs::Answering::ends_answer, crate::proofs::Answering::written))]
+
 ghost use Rattle.std.specs.Prelude.{◌≡◌, Some, Ok, IfSome, false, length};
 ghost use Rattle.cr_memory.specs.Memory.{Memory};
 ghost use Rattle.cr_memory.specs.Access.{load_of, cells_of, number_of, cell_of};
-ghost use Rattle.cr_meaning.specs.Values.{value_in, if_lives, misfits};
+ghost use Rattle.cr_meaning.specs.Values.{value_in, if_lives, misfits, strays};
 ghost use Rattle.cr_meaning.specs.Work.{used, first_element, place_of, inner, inner_of, followed, member_of, deed_of, events_at};
 ghost use Rattle.cr_eval.specs.Answers.{Answers, meant};
 ghost use Rattle.cr_eval.specs.Deeds.{events_of};
 ghost use Rattle.cr_eval.specs.Table.{program_of};
 
 use crate::did::{Deeds, Did, plainly};
-use crate::pointers::{misfits, reach};
+use crate::pointers::{misfits, reach, strays};
 use crate::table::Table;
 use crate::values::{UNUSED_VALUE, if_lives, taken};
 use cr_meaning::{Access, Form, Value};
-use cr_memory::{Cell, OTHER_TYPE, Pointer, Scalar, Store, Trap};
+use cr_memory::{Cell, Element, OTHER_TYPE, Pointer, Scalar, Store, Trap};
 use cr_rows::Row;
 use std::alloc::Global;
 
@@ -85,7 +87,7 @@ fn used_scalar(
 ) -> Result<Did, Trap>
     ensures { Answers (used (program_of table.now) (Access.Scalar kind volatile) store.now at) (meant store.now result) }
 {
-    if misfits(1, at) {
+    if strays(1, at) {
         return Err(Trap::Left(OTHER_TYPE));
     }
     let cell = load(store, at, kind)?;
@@ -97,7 +99,7 @@ fn used_scalar(
 
 /// The cells of a structure: U9, U10, N5.
 fn cells(alloc: Global, store: &Store, at: Pointer, kinds: &[Scalar]) -> Result<Row<Cell>, Trap>
-    requires { misfits (length kinds.now) at ≡ false }
+    requires { strays (length kinds.now) at ≡ false }
     ensures { Answers (cells_of store.now at kinds.now) result }
 {
     if store.is_pointer(at) {
@@ -119,7 +121,7 @@ fn used_structure(
     let Some(kinds) = table.kinds_of(row) else {
         return Err(Trap::NoMemory);
     };
-    if misfits(kinds.len(), at) {
+    if strays(kinds.len(), at) {
         return Err(Trap::Left(OTHER_TYPE));
     }
     let Ok(count) = u32::try_from(kinds.len()) else {
@@ -138,24 +140,24 @@ fn used_structure(
 }
 
 /// The array at a place as a pointer to its first element, or none where the number of the cell behind it is too large.
-fn first_element(at: Pointer, stride: u32) -> Option<Pointer>
-    ensures { IfSome result (λ to. to ≡ first_element at stride) }
+fn first_element(at: Pointer, element: Element) -> Option<Pointer>
+    ensures { IfSome result (λ to. to ≡ first_element at element) }
 {
     match at {
         Pointer::Null => Some(Pointer::Null),
         Pointer::At {
             object,
             cell,
-            stride: whole,
+            element: whole,
             ..
         } => {
-            let high = cell.checked_add(whole)?;
+            let high = cell.checked_add(whole.cells)?;
             Some(Pointer::At {
                 object,
                 cell,
                 low: cell,
                 high,
-                stride,
+                element,
             })
         }
     }
@@ -164,17 +166,17 @@ fn first_element(at: Pointer, stride: u32) -> Option<Pointer>
 fn used_array(
     table: &Table,
     store: &Store,
-    stride: u32,
+    element: Element,
     whole: u32,
     at: Pointer,
 ) -> Result<Did, Trap>
-    ensures { Answers (used (program_of table.now) (Access.Array stride whole) store.now at) (meant store.now result) }
+    ensures { Answers (used (program_of table.now) (Access.Array element whole) store.now at) (meant store.now result) }
 {
-    if whole != 0 && misfits(whole as usize, at) {
+    if whole != 0 && strays(whole as usize, at) {
         return Err(Trap::Left(OTHER_TYPE));
     }
     reach(store, at)?;
-    match first_element(at, stride) {
+    match first_element(at, element) {
         Some(to) => Ok(plainly(Value::Pointer(to))),
         None => Err(Trap::NoMemory),
     }
@@ -195,15 +197,20 @@ pub(crate) fn used(
         Access::Unused => Ok(plainly(Value::Place(at))),
         Access::Scalar(kind, volatile) => used_scalar(table, store, kind, volatile, at),
         Access::Cells(row) => used_structure(alloc, table, store, row, at),
-        Access::Array(stride, whole) => used_array(table, store, stride, whole, at),
+        Access::Array(element, whole) => used_array(table, store, element, whole, at),
     }
 }
 
 // ---- objects and members (6.5.1p2, p4, 6.5.2.3)
 
-/// The place of a whole object, whose cells a table counts.
-pub(crate) fn whole_place(store: &Store, object: u32, cells: usize) -> Result<Pointer, Trap>
-    ensures { Answers (place_of store.now (Some object)) result }
+/// The place of a whole object, whose cells a table counts, and whose type a name tells.
+pub(crate) fn whole_place(
+    store: &Store,
+    object: u32,
+    cells: usize,
+    of: u32,
+) -> Result<Pointer, Trap>
+    ensures { Answers (place_of store.now (Some object) of) result }
 {
     let Ok(count) = u32::try_from(cells) else {
         return Err(Trap::NoMemory);
@@ -219,25 +226,25 @@ pub(crate) fn whole_place(store: &Store, object: u32, cells: usize) -> Result<Po
         cell: 0,
         low: 0,
         high: count,
-        stride: count,
+        element: Element { cells: count, of },
     })
 }
 
 /// Some cells of the structure at a place, or none where their numbers are too large.
-fn inner(at: Pointer, before: u32, count: u32) -> Option<Pointer>
-    ensures { IfSome result (λ to. to ≡ inner before count at) }
+fn inner(at: Pointer, before: u32, member: Element) -> Option<Pointer>
+    ensures { IfSome result (λ to. to ≡ inner before member at) }
 {
     match at {
         Pointer::Null => Some(Pointer::Null),
         Pointer::At { object, cell, .. } => {
             let first = cell.checked_add(before)?;
-            let high = first.checked_add(count)?;
+            let high = first.checked_add(member.cells)?;
             Some(Pointer::At {
                 object,
                 cell: first,
                 low: first,
                 high,
-                stride: count,
+                element: member,
             })
         }
     }
@@ -248,16 +255,16 @@ pub(crate) fn inner_of(
     store: &Store,
     whole: u32,
     before: u32,
-    count: u32,
+    member: Element,
     at: Pointer,
 ) -> Result<Pointer, Trap>
-    ensures { Answers (inner_of store.now whole before count at) result }
+    ensures { Answers (inner_of store.now whole before member at) result }
 {
-    if misfits(whole as usize, at) {
+    if strays(whole as usize, at) {
         return Err(Trap::Left(OTHER_TYPE));
     }
     reach(store, at)?;
-    match inner(at, before, count) {
+    match inner(at, before, member) {
         Some(to) => Ok(to),
         None => Err(Trap::NoMemory),
     }
@@ -266,27 +273,33 @@ pub(crate) fn inner_of(
 /// What `->` designates: N5, U15, U9, U10.
 pub(crate) fn pointed_member(
     store: &Store,
-    whole: u32,
+    whole: Element,
     before: u32,
-    count: u32,
+    member: Element,
     value: &Value,
 ) -> Result<Pointer, Trap>
-    ensures { Answers (followed whole value.now (inner_of store.now whole before count)) result }
+    ensures { Answers (followed whole value.now (inner_of store.now whole.cells before member)) result }
 {
     match value {
-        Value::Pointer(at) => inner_of(store, whole, before, count, *at),
+        Value::Pointer(at) => {
+            if misfits(whole, *at) {
+                Err(Trap::Left(OTHER_TYPE))
+            } else {
+                inner_of(store, whole.cells, before, member, *at)
+            }
+        }
         Value::Nothing => Err(Trap::Undefined(UNUSED_VALUE)),
         Value::Number(_, _) | Value::Place(_) | Value::Cells(_) => Err(Trap::NoMemory),
     }
 }
 
 /// What `*` designates: N5, U15, U10.
-pub(crate) fn dereferenced(store: &Store, cells: u32, value: &Value) -> Result<Pointer, Trap>
-    ensures { Answers (followed cells value.now (λ at. if_lives store.now at (Ok at))) result }
+pub(crate) fn dereferenced(store: &Store, own: Element, value: &Value) -> Result<Pointer, Trap>
+    ensures { Answers (followed own value.now (λ at. if_lives store.now at (Ok at))) result }
 {
     match value {
         Value::Pointer(at) => {
-            if misfits(cells as usize, *at) {
+            if misfits(own, *at) {
                 Err(Trap::Left(OTHER_TYPE))
             } else {
                 if_lives(store, *at)

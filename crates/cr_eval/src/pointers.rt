@@ -1,33 +1,46 @@
+#![tactic(auto, using(crate::proofs::Answering::answers, crate::proofs::Answering::then_answers, crate::proofs::Answering::ends_answer, crate::proofs::Answering::written))]
+
 ghost use Rattle.std.specs.Prelude.{◌≡◌, Ok, false, neg_ℤ, if◌then◌else◌};
 ghost use Rattle.cr_ints.specs.IntKind.{IsInteger};
 ghost use Rattle.cr_memory.specs.Access.{HasStride, reach_of};
 ghost use Rattle.cr_memory.specs.Pointers.{shift_of, differ_of, less_of, same_of};
-ghost use Rattle.cr_meaning.specs.Values.{misfits, misfit_value, moved, moved_either, as_pointer, related, with_pointers, if_both_fit, distance};
+ghost use Rattle.cr_meaning.specs.Values.{misfits, strays, misfit_value, moved, moved_either, as_pointer, related, with_pointers, if_both_fit, distance};
 ghost use Rattle.cr_eval.specs.Answers.{Answers};
 
 use crate::integers::is_integer;
 use crate::values::{UNUSED_VALUE, truth};
 use cr_ints::IntKind;
 use cr_meaning::{Relation, Value};
-use cr_memory::{OTHER_TYPE, Pointer, Store, Trap};
+use cr_memory::{Element, OTHER_TYPE, Pointer, Store, Trap};
 
-/// Whether a pointer isn't null and goes by elements of another number of cells (N5).
+/// Whether a pointer isn't null and points to elements of another type (N5).
 #[inline]
-pub fn misfits(cells: usize, at: Pointer) -> bool
-    ensures test { result ≡ misfits cells at }
+pub fn misfits(own: Element, at: Pointer) -> bool
+    ensures { result ≡ misfits own at }
+{
+    match at {
+        Pointer::Null => false,
+        Pointer::At { element, .. } => !(element.cells == own.cells && element.of == own.of),
+    }
+}
+
+/// Whether a place isn't one of so many cells (N5).
+#[inline]
+pub(crate) fn strays(cells: usize, at: Pointer) -> bool
+    ensures test { result ≡ strays cells at }
     ensures stride { result ≡ false → HasStride at cells }
 {
     match at {
         Pointer::Null => false,
-        Pointer::At { stride, .. } => stride as usize != cells,
+        Pointer::At { element, .. } => element.cells as usize != cells,
     }
 }
 
-fn misfit_value(cells: usize, value: &Value) -> bool
-    ensures { result ≡ misfit_value cells value.now }
+fn misfit_value(own: Element, value: &Value) -> bool
+    ensures { result ≡ misfit_value own value.now }
 {
     match value {
-        Value::Pointer(at) => misfits(cells, *at),
+        Value::Pointer(at) => misfits(own, *at),
         _ => false,
     }
 }
@@ -95,12 +108,18 @@ fn directed(back: bool, by: i128) -> i128
 }
 
 /// A pointer moved by an integer: N5, U15, U10, U6.
-fn moved(store: &Store, back: bool, cells: u32, at: Pointer, value: &Value) -> Result<Pointer, Trap>
-    ensures { Answers (moved store.now back cells at value.now) result }
+fn moved(
+    store: &Store,
+    back: bool,
+    own: Element,
+    at: Pointer,
+    value: &Value,
+) -> Result<Pointer, Trap>
+    ensures { Answers (moved store.now back own at value.now) result }
 {
     match value {
         Value::Number(_, by) => {
-            if misfits(cells as usize, at) {
+            if misfits(own, at) {
                 Err(Trap::Left(OTHER_TYPE))
             } else if is_integer(*by) {
                 shift(store, at, directed(back, *by))
@@ -109,7 +128,7 @@ fn moved(store: &Store, back: bool, cells: u32, at: Pointer, value: &Value) -> R
             }
         }
         Value::Nothing => {
-            if misfits(cells as usize, at) {
+            if misfits(own, at) {
                 Err(Trap::Left(OTHER_TYPE))
             } else {
                 Err(Trap::Undefined(UNUSED_VALUE))
@@ -123,15 +142,15 @@ fn moved(store: &Store, back: bool, cells: u32, at: Pointer, value: &Value) -> R
 pub(crate) fn moved_either(
     store: &Store,
     back: bool,
-    cells: u32,
+    own: Element,
     left: &Value,
     right: &Value,
 ) -> Result<Pointer, Trap>
-    ensures { Answers (moved_either store.now back cells left.now right.now) result }
+    ensures { Answers (moved_either store.now back own left.now right.now) result }
 {
     match (left, right) {
-        (Value::Pointer(at), _) => moved(store, back, cells, *at, right),
-        (_, Value::Pointer(at)) => moved(store, back, cells, *at, left),
+        (Value::Pointer(at), _) => moved(store, back, own, *at, right),
+        (_, Value::Pointer(at)) => moved(store, back, own, *at, left),
         (Value::Nothing, _) | (_, Value::Nothing) => Err(Trap::Undefined(UNUSED_VALUE)),
         _ => Err(Trap::NoMemory),
     }
@@ -186,16 +205,16 @@ fn difference(store: &Store, left: Pointer, right: Pointer) -> Result<Value, Tra
     Ok(Value::Number(IntKind::Long, by))
 }
 
-/// The difference of two pointers to elements of so many cells: N5, U15, U10, U7.
+/// The difference of two pointers to such elements: N5, U15, U10, U7.
 pub(crate) fn distance(
     store: &Store,
-    cells: u32,
+    own: Element,
     left: &Value,
     right: &Value,
 ) -> Result<Value, Trap>
-    ensures { Answers (if_both_fit cells left.now right.now (with_pointers left.now right.now (distance store.now))) result }
+    ensures { Answers (if_both_fit own left.now right.now (with_pointers left.now right.now (distance store.now))) result }
 {
-    if misfit_value(cells as usize, left) || misfit_value(cells as usize, right) {
+    if misfit_value(own, left) || misfit_value(own, right) {
         return Err(Trap::Left(OTHER_TYPE));
     }
     let one = as_pointer(left)?;

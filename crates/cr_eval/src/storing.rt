@@ -1,7 +1,9 @@
+#![tactic(auto, using(crate::proofs::Answering::answers, crate::proofs::Answering::then_answers, crate::proofs::Answering::ends_answer, crate::proofs::Answering::written))]
+
 ghost use Rattle.std.specs.Prelude.{◌≡◌, length, IsTrue, false, if◌then◌else◌};
 ghost use Rattle.cr_memory.specs.Memory.{AllHold};
 ghost use Rattle.cr_memory.specs.Access.{save_of, put_of};
-ghost use Rattle.cr_meaning.specs.Values.{cells_in, misfits};
+ghost use Rattle.cr_meaning.specs.Values.{cells_in, strays};
 ghost use Rattle.cr_meaning.specs.Work.{loaded, stored, assigned, updated};
 ghost use Rattle.cr_eval.specs.Answers.{Answers, meant, leaving};
 ghost use Rattle.cr_eval.specs.Table.{program_of};
@@ -9,7 +11,7 @@ ghost use Rattle.cr_eval.specs.Table.{program_of};
 use crate::did::{Deeds, Did};
 use crate::operators::changed;
 use crate::places::{cell_at, load, value_in};
-use crate::pointers::misfits;
+use crate::pointers::strays;
 use crate::table::Table;
 use crate::values::converted;
 use cr_meaning::{Change, Form, Value};
@@ -62,7 +64,7 @@ fn all_hold(store: &Store, kinds: &[Scalar], values: &[Cell]) -> bool
 
 /// Stores a structure: U9, U10, U13, U14, N5.
 fn put(store: &mut Store, at: Pointer, kinds: &[Scalar], values: &[Cell]) -> Result<(), Trap>
-    requires { misfits (length kinds.now) at ≡ false }
+    requires { strays (length kinds.now) at ≡ false }
     ensures { Answers (put_of store.old at kinds.now values.now) (leaving store.new result) }
 {
     if store.is_pointer(at) && all_hold(store, kinds, values) {
@@ -109,7 +111,7 @@ fn stored(
     at: Pointer,
     value: &Value,
 ) -> Result<(), Trap>
-    requires { misfits (cells_in (program_of table.now) form) at ≡ false }
+    requires { strays (cells_in (program_of table.now) form) at ≡ false }
     ensures { Answers (stored (program_of table.now) store.old form at value.now) (leaving store.new result) }
 {
     match (form, value) {
@@ -136,7 +138,7 @@ pub(crate) fn assigned(
         return Err(Trap::NoMemory);
     };
     let cells = cells_in(table, form);
-    if misfits(cells, *at) {
+    if strays(cells, *at) {
         return Err(Trap::Left(OTHER_TYPE));
     }
     let Ok(count) = u32::try_from(cells) else {
@@ -193,7 +195,7 @@ pub(crate) fn updated(
     let Value::Place(at) = left else {
         return Err(Trap::NoMemory);
     };
-    if misfits(1, *at) {
+    if strays(1, *at) {
         return Err(Trap::Left(OTHER_TYPE));
     }
     let old = loaded(store, form, *at)?;

@@ -1,3 +1,5 @@
+#![tactic(auto, using(crate::proofs::Answering::answers, crate::proofs::Answering::then_answers, crate::proofs::Answering::ends_answer, crate::proofs::Answering::written))]
+
 use cr_meaning::{Limits, Op};
 use cr_memory::{Cell, Guard, Scalar};
 use cr_rows::Row;

@@ -1,3 +1,5 @@
+#![tactic(auto, using(crate::proofs::Answering::answers, crate::proofs::Answering::then_answers, crate::proofs::Answering::ends_answer, crate::proofs::Answering::written))]
+
 ghost use Rattle.std.specs.Prelude.{[], ◌∷◌, Result, take, drop};
 ghost use Rattle.cr_memory.specs.Memory.{Memory};
 ghost use Rattle.cr_meaning.specs.World.{World};
@@ -17,7 +19,7 @@ use crate::table::Table;
 use crate::values::{UNUSED_VALUE, cast, copied, copied_cells, taken};
 use cr_ints::IntKind;
 use cr_meaning::{Access, Form, Op, Value, Work};
-use cr_memory::{Cell, Pointer, Store, Trap};
+use cr_memory::{Cell, Element, Pointer, Store, Trap};
 use std::alloc::Global;
 
 /// A value with no event.
@@ -86,11 +88,17 @@ fn taken_part(
 }
 
 /// The place of a node's object, if it was entered.
-fn place_of(table: &Table, store: &Store, node: u32, object: Option<u32>) -> Result<Pointer, Trap>
-    ensures { Answers (place_of store.now object) result }
+fn place_of(
+    table: &Table,
+    store: &Store,
+    node: u32,
+    of: u32,
+    object: Option<u32>,
+) -> Result<Pointer, Trap>
+    ensures { Answers (place_of store.now object of) result }
 {
     match object {
-        Some(object) => whole_place(store, object, table.cells_for(node)),
+        Some(object) => whole_place(store, object, table.cells_for(node), of),
         None => Err(Trap::NoMemory),
     }
 }
@@ -103,11 +111,11 @@ fn member(
     store: &Store,
     whole: u32,
     before: u32,
-    count: u32,
+    member: Element,
     form: Form,
     value: &Value,
 ) -> Result<Did, Trap>
-    ensures { Answers (member_of (program_of table.now) access store.now whole before count form value.now) (meant store.now result) }
+    ensures { Answers (member_of (program_of table.now) access store.now whole before member form value.now) (meant store.now result) }
 {
     match value {
         Value::Place(at) => at_place(
@@ -115,13 +123,13 @@ fn member(
             table,
             access,
             store,
-            inner_of(store, whole, before, count, *at),
+            inner_of(store, whole, before, member, *at),
         ),
         Value::Cells(cells) => giving(taken_part(
             alloc,
             store,
             before,
-            count,
+            member.cells,
             form,
             cells.as_slice(),
         )),
@@ -144,12 +152,12 @@ pub fn work_none(
 {
     match &op.work {
         Work::Constant(kind, value) => Ok(plainly(Value::Number(*kind, *value))),
-        Work::Object(node) => at_place(
+        Work::Object(node, of) => at_place(
             alloc,
             table,
             op.access,
             store,
-            place_of(table, store, *node, object),
+            place_of(table, store, *node, *of, object),
         ),
         _ => Err(Trap::NoMemory),
     }
@@ -172,22 +180,22 @@ pub fn work_one(
         Work::Not => giving(negated(store, value)),
         Work::Cast(form) => giving(cast(alloc, store, *form, value)),
         Work::AddressOf => giving(address(value)),
-        Work::Dereference(cells) => at_place(
+        Work::Dereference(own) => at_place(
             alloc,
             table,
             op.access,
             store,
-            dereferenced(store, *cells, value),
+            dereferenced(store, *own, value),
         ),
-        Work::Member(whole, before, count, form) => member(
-            alloc, table, op.access, store, *whole, *before, *count, *form, value,
+        Work::Member(whole, before, part, form) => member(
+            alloc, table, op.access, store, *whole, *before, *part, *form, value,
         ),
-        Work::PointerMember(whole, before, count) => at_place(
+        Work::PointerMember(whole, before, part) => at_place(
             alloc,
             table,
             op.access,
             store,
-            pointed_member(store, *whole, *before, *count, value),
+            pointed_member(store, *whole, *before, *part, value),
         ),
         Work::Update(change, form, volatile, post) => {
             updated(
@@ -227,13 +235,13 @@ pub fn work_two(
             store, *relation, *kind, left, right,
         )),
         Work::ComparePointers(relation) => giving(compared(store, *relation, left, right)),
-        Work::Distance(cells) => giving(distance(store, *cells, left, right)),
-        Work::Subscript(cells) => at_place(
+        Work::Distance(own) => giving(distance(store, *own, left, right)),
+        Work::Subscript(own) => at_place(
             alloc,
             table,
             op.access,
             store,
-            moved_either(store, false, *cells, left, right),
+            moved_either(store, false, *own, left, right),
         ),
         Work::Assign(form) => assigned(alloc, table, store, *form, left, right),
         Work::Update(change, form, volatile, post) => updated(

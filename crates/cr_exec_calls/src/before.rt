@@ -1,4 +1,6 @@
 // The beginning of a call of a function of the program (C11 6.5.2.2, 6.9.1p10).
+#![tactic(auto, using(cr_eval::proofs::Answering::answers, cr_exec_world::proofs::Working::worked, cr_exec_world::proofs::Working::unsaid, cr_exec_world::proofs::Working::left, cr_exec_world::proofs::Working::undefined))]
+
 ghost use Rattle.std.specs.Prelude.{◌≡◌, List};
 ghost use Rattle.std.specs.List.{AllZip};
 ghost use Rattle.cr_eval.specs.Table.{program_of};

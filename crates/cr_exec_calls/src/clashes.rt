@@ -1,4 +1,6 @@
 // Conflicts between the arguments of a call, of which no one is sequenced before another (C11 6.5.2.2p10).
+#![tactic(auto, using(cr_eval::proofs::Answering::answers, cr_exec_world::proofs::Working::worked, cr_exec_world::proofs::Working::unsaid, cr_exec_world::proofs::Working::left, cr_exec_world::proofs::Working::undefined))]
+
 ghost use Rattle.std.specs.Prelude.{◌≡◌, true, false, MatchBool, IfOk};
 ghost use Rattle.std.specs.List.{list_any};
 ghost use Rattle.cr_footprint.specs.Cell.{Cell, holds, IsRising};

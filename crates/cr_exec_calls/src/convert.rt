@@ -1,4 +1,6 @@
 // The arguments as values of the parameters' types (C11 6.5.2.2p7).
+#![tactic(auto, using(cr_eval::proofs::Answering::answers, cr_exec_world::proofs::Working::worked, cr_exec_world::proofs::Working::unsaid, cr_exec_world::proofs::Working::left, cr_exec_world::proofs::Working::undefined))]
+
 ghost use Rattle.std.specs.Prelude.{◌≡◌};
 ghost use Rattle.std.specs.List.{list_any};
 ghost use Rattle.cr_meaning.specs.Nodes.{arguments, converted_all};

@@ -1,4 +1,6 @@
 // The end of a call.
+#![tactic(auto, using(cr_eval::proofs::Answering::answers, cr_exec_world::proofs::Working::worked, cr_exec_world::proofs::Working::unsaid, cr_exec_world::proofs::Working::left, cr_exec_world::proofs::Working::undefined))]
+
 ghost use Rattle.std.specs.Prelude.{◌≡◌, List, option_to_list, ◌++◌};
 ghost use Rattle.std.specs.List.{AllZip};
 ghost use Rattle.cr_eval.specs.Table.{program_of};

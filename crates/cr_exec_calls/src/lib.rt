@@ -2,7 +2,7 @@
 //! `call_end` ends it once its body has answered; `call_end` also does the whole of a call of the library. Each promises the
 //! meaning's answer, with a footprint of just the arguments' events, or its first case, and no call requires anything. It stands on
 //! the joining of arguments, on the calls of the library, on the world of a run and on the stack of nodes.
-#![tactic(auto, using(cr_eval::proofs::Answering::answers, cr_exec_world::proofs::Working::worked, cr_exec_world::proofs::Working::unsaid, cr_exec_world::proofs::Working::left, cr_exec_world::proofs::Working::undefined))]
+#![tactic(auto)]
 
 mod before;
 mod clashes;

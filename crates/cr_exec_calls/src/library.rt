@@ -1,4 +1,6 @@
 // A call of the library (C11 7.21.6.3, 7.21.7.7, 7.22.4.1, 7.22.4.4).
+#![tactic(auto, using(cr_eval::proofs::Answering::answers, cr_exec_world::proofs::Working::worked, cr_exec_world::proofs::Working::unsaid, cr_exec_world::proofs::Working::left, cr_exec_world::proofs::Working::undefined))]
+
 ghost use Rattle.std.specs.Prelude.{◌≡◌, List};
 ghost use Rattle.cr_exec_library.specs.Printing.{called};
 ghost use Rattle.cr_eval.specs.Answers.{Answers};

@@ -1,4 +1,6 @@
 // The answers of arguments, taken off the stack.
+#![tactic(auto, using(cr_eval::proofs::Answering::answers, cr_exec_world::proofs::Working::worked, cr_exec_world::proofs::Working::unsaid, cr_exec_world::proofs::Working::left, cr_exec_world::proofs::Working::undefined))]
+
 ghost use Rattle.std.specs.Prelude.{◌≡◌, ◌++◌, ◌∷◌, [], IfOk};
 ghost use Rattle.cr_exec_calls.specs.Arguments.{value_in};
 ghost use Rattle.cr_exec_calls.specs.Taken.{AddsArgument, Takes, TakesReversed};

@@ -137,9 +137,9 @@ some_is : {A : Type 0} {a b : A} → Some a ≡ Some b → a ≡ b
 some_is e = cc
 
 pub some_found : (w : Work) (bindings : List Binding) (declared : ℕ) (object : Option ℕ) → object_of w ≡ Some declared → object_for bindings declared ≡ object → IsFound w bindings object
-some_found (work.Object n) bindings declared object e h = ap (λ (k : ℕ). object_for bindings k) (some_is e) ∙ h
+some_found (work.Object n of) bindings declared object e h = ap (λ (k : ℕ). object_for bindings k) (some_is e) ∙ h
 some_found w bindings declared object e h = absurd (cc e)
 
 pub none_found : (w : Work) (bindings : List Binding) → object_of w ≡ None → IsFound w bindings None
-none_found (work.Object n) bindings e = absurd (cc e)
+none_found (work.Object n of) bindings e = absurd (cc e)
 none_found w bindings e = tt

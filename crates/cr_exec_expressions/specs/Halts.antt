@@ -26,5 +26,5 @@ pub record Places (act : Act) (world : World) (node : ℕ) (result : Result (Uni
 
 -- the node whose object an identifier or a literal stands for
 abbrev pub object_of : Work → Option ℕ
-object_of (work.Object declared) = Some declared
+object_of (work.Object declared of) = Some declared
 object_of other = None

@@ -1,4 +1,6 @@
 // A case at a node as the end of a run.
+#![tactic(auto, using(crate::proofs::Parting::unsaid, crate::proofs::Parting::no_memory, crate::proofs::Parting::none_join))]
+
 ghost use Rattle.std.specs.Prelude.{◌≡◌};
 ghost use Rattle.cr_exec_world.specs.Worlds.{halt_of};
 ghost use Rattle.cr_exec_expressions.specs.Halts.{halting};

@@ -1,7 +1,7 @@
 //! The work of an expression's node once its operands are evaluated (C11 6.5), calls aside: `expression` does it on the operands'
 //! answers on the stack, in whose place it puts the node's. It promises the meaning's answer with a footprint of just its events, or its first
 //! case. It stands on the joining of operands, on the world of a run and on the stack of nodes.
-#![tactic(auto, using(crate::proofs::Parting::unsaid, crate::proofs::Parting::no_memory, crate::proofs::Parting::none_join))]
+#![tactic(auto)]
 
 mod held;
 mod named;

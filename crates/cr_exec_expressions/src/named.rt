@@ -1,4 +1,6 @@
 // Nodes without operands (C11 6.5.1).
+#![tactic(auto, using(crate::proofs::Parting::unsaid, crate::proofs::Parting::no_memory, crate::proofs::Parting::none_join))]
+
 ghost use Rattle.std.specs.Prelude.{◌≡◌, ℕ, [], Some};
 ghost use Rattle.cr_eval.specs.Table.{program_of};
 ghost use Rattle.cr_eval_join.specs.Joins.{Joins};
@@ -19,7 +21,7 @@ fn object_of(work: &Work) -> Option<u32>
     ensures { result ≡ object_of work.now }
 {
     match work {
-        Work::Object(declared) => Some(*declared),
+        Work::Object(declared, _) => Some(*declared),
         _ => None,
     }
 }

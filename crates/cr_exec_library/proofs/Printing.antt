@@ -23,7 +23,7 @@ use Rattle.cr_memory.specs.Access.{load_of}
 use Rattle.cr_meaning.specs.World.{Program, World, unused_value, then_by}
 use Rattle.cr_meaning.specs.Values.{misfits, if_fits, as_pointer}
 use Rattle.cr_meaning.specs.Work.{is_nothing, integer}
-use Rattle.cr_meaning.specs.Library.{Called, byte_of, following, text_after, text_by, text_at, pieces_of, joined_to, piece_shown, printed, put_out, formatted, printf_of, putchar_of}
+use Rattle.cr_meaning.specs.Library.{Called, char as char_element, byte_of, following, text_after, text_by, text_at, pieces_of, joined_to, piece_shown, printed, put_out, formatted, printf_of, putchar_of}
 use Rattle.cr_meaning.specs.declared.value.Value.{Value}
 use Rattle.cr_meaning.specs.declared.value.Value.TheVariants.{Number}
 use Rattle.cr_meaning.proofs.Formats.{formats_are_read}
@@ -204,7 +204,7 @@ printed_out p world first bytes given got h e k =
     then_answers first (λ all. put_out p world all (Number IntegerKind (pos (length all)))) bytes got h (subst P e k)
 
 pub printf_from : (p : Program) (world : World) (texts : List Bool) (format : Value) (values : List Value) (at : Pointer) (bytes given : List ℕ) (got : Result Called Trap)
-    → as_pointer format ≡ Ok at → misfits 1 at ≡ false → list_any is_nothing values ≡ false → Answers (text_at world.memory at) (Ok bytes) → given ≡ bytes
+    → as_pointer format ≡ Ok at → misfits char_element at ≡ false → list_any is_nothing values ≡ false → Answers (text_at world.memory at) (Ok bytes) → given ≡ bytes
     → Answers (formatted p world (zip texts values) (pieces_of given)) got → Answers (printf_of p world texts (format ∷ values)) got
 printf_from p world texts format values at bytes given got pointer fits all text same h =
     let f : List ℕ → Result Called Trap = λ bs. formatted p world (zip texts values) (pieces_of bs) in
@@ -212,7 +212,7 @@ printf_from p world texts format values at bytes given got pointer fits all text
     let P : List ℕ → Type 0 = λ bs. Answers (f bs) got in
     let Q : Result Called Trap → Type 0 = λ r. Answers r got in
     let e : printf_of p world texts (format ∷ values) ≡ whole =
-    ap (λ (r : Result Pointer Trap). then_by r (λ a. if_fits 1 a (if list_any is_nothing values then Err unused_value else then_by (text_at world.memory a) f))) pointer
+    ap (λ (r : Result Pointer Trap). then_by r (λ a. if_fits char_element a (if list_any is_nothing values then Err unused_value else then_by (text_at world.memory a) f))) pointer
     ∙ (ap (λ (b : Bool). if b then Err (Left 5) else (if list_any is_nothing values then Err unused_value else whole)) fits
     ∙ ap (λ (b : Bool). if b then Err unused_value else whole) all) in
     subst Q (sym e) (then_answers (text_at world.memory at) f bytes got text (subst P same h))

@@ -1,4 +1,6 @@
 // The calls.
+#![tactic(auto, using(cr_eval::proofs::Answering::answers, cr_eval::proofs::Answering::then_answers, cr_eval::proofs::Answering::ends_answer, crate::proofs::Printing::is_byte, crate::proofs::Printing::from_none))]
+
 ghost use Rattle.std.specs.Prelude.{◌≡◌, ◌∷◌, [], Some, pos, length, nat_le, ◌+◌};
 ghost use Rattle.std.specs.List.{list_any, zip};
 ghost use Rattle.cr_meaning.specs.World.{World};
@@ -9,7 +11,7 @@ ghost use Rattle.cr_eval.specs.Table.{program_of};
 ghost use Rattle.cr_exec_library.specs.Printing.{called, counted, over, printed_on, pieces_in, read_of, trap_of};
 
 use crate::pieces::print_all;
-use crate::text::{byte_from, text};
+use crate::text::{CHAR, byte_from, text};
 use cr_eval::{Table, UNUSED_VALUE, as_pointer, integer, is_nothing, misfits};
 use cr_ints::{IntKind, convert};
 use cr_library::{FormatEnd, Piece};
@@ -149,7 +151,7 @@ pub fn printf(
         Ok(at) => at,
         Err(trap) => return Err(trap),
     };
-    if misfits(1, at) {
+    if misfits(CHAR, at) {
         return Err(Trap::Left(OTHER_TYPE));
     }
     if any_nothing(values) {

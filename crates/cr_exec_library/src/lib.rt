@@ -1,7 +1,7 @@
 //! The calls of the C library that the profile has (C11 7.21.6.3, 7.21.7.7, 7.22.4.4): `printf`, `putchar`, and the status of `exit`,
 //! on the values of their arguments. Each answers what the meaning gives, the value and what stands in the output then, or its first
 //! case. It stands on the formats of the library, on the own work of nodes and on the meaning.
-#![tactic(auto, using(cr_eval::proofs::Answering::answers, cr_eval::proofs::Answering::then_answers, cr_eval::proofs::Answering::ends_answer, crate::proofs::Printing::is_byte, crate::proofs::Printing::from_none))]
+#![tactic(auto)]
 
 mod calls;
 mod pieces;

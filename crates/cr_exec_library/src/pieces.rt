@@ -1,4 +1,6 @@
 // The pieces of a format, printed (C11 7.21.6.1).
+#![tactic(auto, using(cr_eval::proofs::Answering::answers, cr_eval::proofs::Answering::then_answers, cr_eval::proofs::Answering::ends_answer, crate::proofs::Printing::is_byte, crate::proofs::Printing::from_none))]
+
 ghost use Rattle.std.specs.Prelude.{◌≡◌};
 ghost use Rattle.std.specs.List.{zip};
 ghost use Rattle.cr_meaning.specs.World.{then_by};

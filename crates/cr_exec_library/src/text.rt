@@ -1,4 +1,6 @@
 // Strings (C11 7.1.1p1).
+#![tactic(auto, using(cr_eval::proofs::Answering::answers, cr_eval::proofs::Answering::then_answers, cr_eval::proofs::Answering::ends_answer, crate::proofs::Printing::is_byte, crate::proofs::Printing::from_none))]
+
 ghost use Rattle.std.specs.Prelude.{◌≡◌, Ok, ◌+◌, IfSome};
 ghost use Rattle.cr_ints.specs.IntKind.{IsInteger};
 ghost use Rattle.cr_meaning.specs.World.{then_by};
@@ -10,8 +12,11 @@ ghost use Rattle.cr_exec_library.specs.Printing.{behind, leaving, bytes_of, IsBy
 use cr_eval::{integer, load, misfits};
 use cr_ints::{IntKind, convert};
 use cr_meaning::Value;
-use cr_memory::{Cell, OTHER_TYPE, Pointer, Scalar, Store, Trap};
+use cr_memory::{Cell, Element, OTHER_TYPE, Pointer, Scalar, Store, Trap};
 use std::alloc::Global;
+
+/// A char as an element.
+pub(crate) const CHAR: Element = Element { cells: 1, of: 1 };
 
 /// The unsigned char that a number is converted to.
 fn byte_of(value: i128) -> u8
@@ -55,7 +60,7 @@ fn following(at: Pointer) -> Option<Pointer>
             cell,
             low,
             high,
-            stride,
+            element,
         } => {
             let cell = cell.checked_add(1)?;
             Some(Pointer::At {
@@ -63,7 +68,7 @@ fn following(at: Pointer) -> Option<Pointer>
                 cell,
                 low,
                 high,
-                stride,
+                element,
             })
         }
     }
@@ -134,7 +139,7 @@ fn push_chars(store: &Store, from: Pointer, most: u64, out: &mut Vec<u8>) -> Res
 pub(crate) fn push_text(store: &Store, at: Pointer, out: &mut Vec<u8>) -> Result<(), Trap>
     ensures { Answers (then_by (text_at store.now at) (behind out.old.items)) (leaving out.new.items result) }
 {
-    if misfits(1, at) {
+    if misfits(CHAR, at) {
         return Err(Trap::Left(OTHER_TYPE));
     }
     push_chars(store, at, room_from(at), out)

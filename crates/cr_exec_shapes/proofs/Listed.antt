@@ -1,34 +1,35 @@
--- The open rows, as a list that rises.
-use Rattle.std.proofs.Common.{◌≡◌, ◌<◌, ◌≤◌, ◌+◌, ◌++◌, ◌∷◌, [], ℕ, List, Bool, true, false, inl, inr, refl, sym, ap, ◌∙◌, arith, length, slice_index_or, length-append}
+-- Rows of a kind, as a list that rises.
+use Rattle.std.proofs.Common.{◌≡◌, ◌<◌, ◌+◌, ◌++◌, ◌∷◌, [], ℕ, List, Bool, true, false, inl, inr, refl, sym, ap, ◌∙◌, arith, length, slice_index_or, length-append}
 use Rattle.std.proofs.Math.ListN.{get_or-append}
 use Rattle.std.proofs.Math.Seq.{get_or-append_seam}
 use Rattle.std.proofs.lemmas.List.{append-nil}
-use Rattle.std.proofs.lemmas.Bool.{cases_Bool, cases_lt, true≢false}
+use Rattle.std.proofs.lemmas.Bool.{cases_Bool, cases_lt, true≢false, false≢true}
 use Rattle.cr_check_types.specs.declared.shape.Shape.{Shape}
-use Rattle.cr_check_types.specs.Types.{type_at}
+use Rattle.cr_check_types.specs.Types.{Qualified, plain, pointer, array, type_at}
 use Rattle.cr_check_types.specs.Relations.{are_compatible}
 use Rattle.cr_check_types.specs.Shared.{IsCanonical}
-use Rattle.cr_exec_shapes.specs.Open.{is_open, AreListed, IsAmong, listed_if}
+use Rattle.cr_exec_shapes.specs.Open.{is_open, is_array, AreListed, listed_if}
+use Rattle.cr_meaning_operations.specs.Shapes.{unqualified}
 use Rattle.cr_exec_shapes.proofs.Open.{closed_apart}
 
-pub listed_none : (shapes : List Shape) → AreListed shapes [] 0
-listed_none shapes = record {
+pub listed_none : (test : Qualified → Bool) (shapes : List Shape) → AreListed test shapes [] 0
+listed_none test shapes = record {
   below = λ at lt. absurd (omega (arith, lt));
   rising = λ left right low lt. absurd (omega (arith, lt));
   all = λ row lt is. absurd (omega (arith, lt));
 }
 
--- one more row, which isn't open
-listed_past : (shapes : List Shape) (rows : List ℕ) (row : ℕ) → AreListed shapes rows row → is_open (type_at shapes row) ≡ false
-    → AreListed shapes rows (row + 1)
-listed_past shapes rows row h closed = record {
+-- one more row, of another type
+listed_past : (test : Qualified → Bool) (shapes : List Shape) (rows : List ℕ) (row : ℕ) → AreListed test shapes rows row → test (type_at shapes row) ≡ false
+    → AreListed test shapes rows (row + 1)
+listed_past test shapes rows row h closed = record {
   below = λ at lt. let one = h.below at lt in omega (arith, one);
   rising = h.rising;
   all = λ r lt is. elim (cases_lt r row) [
     | inl older ↦ h.all r older is
     | inr newest ↦
         let here : r ≡ row = omega (arith, lt, newest) in
-        absurd (true≢false (sym is ∙ ap (λ k. is_open (type_at shapes k)) here ∙ closed))
+        absurd (true≢false (sym is ∙ ap (λ k. test (type_at shapes k)) here ∙ closed))
   ];
 }
 
@@ -38,9 +39,9 @@ older rows row k lt = get_or-append rows (row ∷ []) 0 k lt
 newest : (rows : List ℕ) (row k : ℕ) → k ≡ length rows → slice_index_or (rows ++ row ∷ []) k 0 ≡ row
 newest rows row k e = ap (λ i. slice_index_or (rows ++ row ∷ []) i 0) e ∙ get_or-append_seam rows row [] 0
 
--- one more row, which is open
-listed_new : (shapes : List Shape) (rows : List ℕ) (row : ℕ) → AreListed shapes rows row → AreListed shapes (rows ++ row ∷ []) (row + 1)
-listed_new shapes rows row h =
+-- one more row, of such a type
+listed_new : (test : Qualified → Bool) (shapes : List Shape) (rows : List ℕ) (row : ℕ) → AreListed test shapes rows row → AreListed test shapes (rows ++ row ∷ []) (row + 1)
+listed_new test shapes rows row h =
     let size : length (rows ++ row ∷ []) ≡ length rows + 1 = length-append rows (row ∷ []) in
     record {
       below = λ at lt. elim (cases_lt at (length rows)) [
@@ -79,13 +80,13 @@ listed_new shapes rows row h =
       ];
     }
 
-pub listed_more : (shapes : List Shape) (rows then : List ℕ) (row : ℕ) (is : Bool) → AreListed shapes rows row → is ≡ is_open (type_at shapes row)
-    → then ≡ rows ++ listed_if is row → AreListed shapes then (row + 1)
-listed_more shapes rows then row true h is e = rw e (listed_new shapes rows row h)
-listed_more shapes rows then row false h is e = rw (e ∙ append-nil rows) (listed_past shapes rows row h (sym is))
+pub listed_more : (test : Qualified → Bool) (shapes : List Shape) (rows then : List ℕ) (row : ℕ) (is : Bool) → AreListed test shapes rows row → is ≡ test (type_at shapes row)
+    → then ≡ rows ++ listed_if is row → AreListed test shapes then (row + 1)
+listed_more test shapes rows then row true h is e = rw e (listed_new test shapes rows row h)
+listed_more test shapes rows then row false h is e = rw (e ∙ append-nil rows) (listed_past test shapes rows row h (sym is))
 
 -- where none of the listed rows before a place is compatible with a row that isn't open, no row before the one of that place is
-pub none_before : (shapes : List Shape) (rows : List ℕ) (row at : ℕ) → IsCanonical shapes → AreListed shapes rows row → row < length shapes
+pub none_before : (shapes : List Shape) (rows : List ℕ) (row at : ℕ) → IsCanonical shapes → AreListed is_open shapes rows row → row < length shapes
     → is_open (type_at shapes row) ≡ false
     → ((k : ℕ) → k < at → are_compatible (type_at shapes (slice_index_or rows k 0)) (type_at shapes row) ≡ false)
     → (other : ℕ) → other < row → ((k : ℕ) → k < length rows → slice_index_or rows k 0 ≡ other → k < at)
@@ -98,9 +99,9 @@ none_before shapes rows row at canonical h within closed none other low before =
 ]
 
 -- a smaller row is listed before
-pub is_before : (shapes : List Shape) (rows : List ℕ) (row at k : ℕ) → AreListed shapes rows row → at < length rows → k < length rows
+pub is_before : (test : Qualified → Bool) (shapes : List Shape) (rows : List ℕ) (row at k : ℕ) → AreListed test shapes rows row → at < length rows → k < length rows
     → slice_index_or rows k 0 < slice_index_or rows at 0 → k < at
-is_before shapes rows row at k h lt within less = elim (cases_lt k at) [
+is_before test shapes rows row at k h lt within less = elim (cases_lt k at) [
   | inl low ↦ low
   | inr high ↦ elim (cases_lt at k) [
     | inl over ↦ let rising = h.rising at k over within in absurd (omega (arith, rising, less))
@@ -110,3 +111,26 @@ is_before shapes rows row at k h lt within less = elim (cases_lt k at) [
         absurd (omega (arith, f, less))
   ]
 ]
+
+-- where no listed row before a place is alike, no row before the one of that place is: a row of another kind never is
+pub none_alike : (test : Qualified → Bool) (alike : Qualified → Bool) (shapes : List Shape) (rows : List ℕ) (row at : ℕ) → AreListed test shapes rows row
+    → ((type : Qualified) → test type ≡ false → alike type ≡ false)
+    → ((k : ℕ) → k < at → alike (type_at shapes (slice_index_or rows k 0)) ≡ false)
+    → (other : ℕ) → other < row → ((k : ℕ) → k < length rows → slice_index_or rows k 0 ≡ other → k < at)
+    → alike (type_at shapes other) ≡ false
+none_alike test alike shapes rows row at h apart none other low before = elim (cases_Bool (test (type_at shapes other))) [
+  | inl is ↦
+      let found = h.all other low is in
+      ap (λ r. alike (type_at shapes r)) (sym found.is) ∙ none found.at (before found.at found.within found.is)
+  | inr not ↦ apart (type_at shapes other) not
+]
+
+-- no other type is compatible with an array
+pub arrays_apart : (type own : Qualified) → is_array own ≡ true → is_array type ≡ false → are_compatible (unqualified type) (unqualified own) ≡ false
+arrays_apart (array n t) own is not = absurd (true≢false not)
+arrays_apart (plain of c v) (array n t) is not = refl
+arrays_apart (plain of c v) (plain other d w) is not = absurd (false≢true is)
+arrays_apart (plain of c v) (pointer d w u) is not = absurd (false≢true is)
+arrays_apart (pointer c v t) (array n u) is not = refl
+arrays_apart (pointer c v t) (plain other d w) is not = absurd (false≢true is)
+arrays_apart (pointer c v t) (pointer d w u) is not = absurd (false≢true is)

@@ -1,18 +1,18 @@
 -- The rows of a table of types: those that it doesn't have, and the first one of a compatible type.
-use Rattle.std.proofs.Common.{◌≡◌, ℕ, zero, suc, ◌+◌, ◌<◌, ◌≤◌, true, false, List, [], ◌∷◌, ◌++◌, length, fold, take, get_or, slice_get, slice_index_or, Some, inl, inr, refl, sym, ap, ◌∙◌, arith, length-append}
+use Rattle.std.proofs.Common.{◌≡◌, ℕ, zero, suc, ◌+◌, ◌*◌, ◌<◌, ◌≤◌, true, false, List, [], ◌∷◌, ◌++◌, length, fold, map, take, get_or, slice_get, slice_index_or, Some, inl, inr, refl, sym, ap, ◌∙◌, arith}
 use Rattle.std.proofs.lemmas.Bool.{cases_lt}
 use Rattle.std.proofs.Math.ListN.{get_or-append}
 use Rattle.std.proofs.Math.Seq.{get_or-append_seam}
-use Rattle.std.proofs.lemmas.List.{get_or_past}
+use Rattle.std.proofs.lemmas.List.{get_or_past, length-map}
 use Rattle.std.specs.Prelude.{sum_by}
 use Rattle.std.proofs.lemmas.List.Sums.{sum_by_more_le}
 use Rattle.cr_check_types.specs.declared.shape.Shape.{Shape}
-use Rattle.cr_check_types.specs.Types.{Qualified, unknown, type_of, with_row, types_of, type_at}
+use Rattle.cr_check_types.specs.Types.{Qualified, array, unknown, with_row, types_of, type_at}
 use Rattle.cr_check_types.specs.Relations.{are_compatible, IsLeastRow}
 use Rattle.cr_check_types.proofs.Tables.{beyond, made_length}
 use Rattle.cr_typed.specs.declared.typed.Typed.{Typed}
 use Rattle.cr_typed.specs.Typed.{IsTyped, row_cells, MOST_CELLS}
-use Rattle.cr_meaning_operations.specs.Shapes.{first_row}
+use Rattle.cr_meaning_operations.specs.Shapes.{first_row, unqualified, name_in}
 
 first_by : (xs : List Qualified) (type : Qualified) (at k : ℕ) → k < length xs → are_compatible (slice_index_or xs k unknown) type ≡ true
     → ((j : ℕ) → j < k → are_compatible (slice_index_or xs j unknown) type ≡ false) → first_row xs type at ≡ at + k
@@ -30,6 +30,35 @@ first_is_least ss row least lt h =
     let e = made_length ss [] in
     let w = h.within in
     first_by (fold with_row [] ss) (type_at ss row) 0 least (omega (arith, lt, w)) h.is h.first ∙ omega arith
+
+-- the types of the rows without qualifiers
+bare_at : (xs : List Qualified) (k : ℕ) → slice_index_or (map unqualified xs) k unknown ≡ unqualified (slice_index_or xs k unknown)
+bare_at [] k = refl
+bare_at (x ∷ xs) zero = refl
+bare_at (x ∷ xs) (suc k) = bare_at xs k
+
+pub first_alike : (ss : List Shape) (row least : ℕ) → row < length ss
+    → IsLeastRow (λ r. are_compatible (unqualified (type_at ss r)) (unqualified (type_at ss row))) row least
+    → first_row (map unqualified (types_of ss)) (unqualified (type_at ss row)) 0 ≡ least
+unfolding type_at types_of
+first_alike ss row least lt h =
+    let e = made_length ss [] in
+    let f = length-map (fold with_row [] ss) unqualified in
+    let w = h.within in
+    let own : Qualified = unqualified (slice_index_or (fold with_row [] ss) row unknown) in
+    first_by (map unqualified (fold with_row [] ss)) own 0 least (omega (arith, lt, w, e, f))
+    (ap (λ x. are_compatible x own) (bare_at (fold with_row [] ss) least) ∙ h.is)
+    (λ j low. ap (λ x. are_compatible x own) (bare_at (fold with_row [] ss) j) ∙ h.first j low)
+    ∙ omega arith
+
+-- what names an array, by the first row that is alike
+pub array_named : (t : Typed) (row least n : ℕ) (below : Qualified) → row < length t.shapes → type_at t.shapes row ≡ array n below
+    → IsLeastRow (λ r. are_compatible (unqualified (type_at t.shapes r)) (unqualified (type_at t.shapes row))) row least
+    → 14 + 3 * least ≡ name_in t (type_at t.shapes row)
+array_named t row least n below lt is h =
+    let types = map unqualified (types_of t.shapes) in
+    let first = ap (λ type. first_row types (unqualified type) 0) (sym is) ∙ first_alike t.shapes row least lt h in
+    ap (λ k. 14 + 3 * k) (sym first) ∙ ap (name_in t) (sym is)
 
 -- no type is that of the first row
 pub first_of_none : (ss : List Shape) → type_at ss 0 ≡ unknown → first_row (types_of ss) unknown 0 ≡ 0

@@ -9,7 +9,7 @@ use Rattle.cr_syntax.specs.declared.ctype.CType.TheVariants.{Int, Pointer, Array
 use Rattle.cr_check_types.specs.Types.{type_at}
 use Rattle.cr_typed.specs.declared.typed.Typed.{Typed}
 use Rattle.cr_typed.specs.Typed.{IsTyped, row_cells}
-use Rattle.cr_meaning_operations.specs.Shapes.{number_of, guard_of, structure_cells}
+use Rattle.cr_meaning_operations.specs.Shapes.{number_of, name_in, guard_of, structure_cells}
 
 -- the cells before each of some members, and those of all, where there are any
 abbrev pub AreSums : Typed → List ℕ → List ℕ → Type 0
@@ -19,12 +19,13 @@ AreSums t members sums = (index : ℕ) → index ≤ length members → slice_in
 abbrev pub AreOffsets : Typed → List (List ℕ) → Type 0
 AreOffsets t offsets = (node : ℕ) → AreSums t (slice_index_or t.members node []) (slice_index_or offsets node [])
 
--- for each row the number of its type, and for each structure where its members stand
-pub record AreNumbered (t : Typed) (numbers : List ℕ) (offsets : List (List ℕ)) : Type 0 where
+-- for each row the number of its type and what names it as an element, and for each structure where its members stand
+pub record AreNumbered (t : Typed) (numbers names : List ℕ) (offsets : List (List ℕ)) : Type 0 where
   pub typed : IsTyped t
   pub rows_fit : length t.shapes < 2 ^ 32
   pub count : length numbers ≡ length t.shapes
   pub each : (row : ℕ) → slice_index_or numbers row 0 ≡ number_of t (type_at t.shapes row)
+  pub named : (row : ℕ) → slice_index_or names row 0 ≡ name_in t (type_at t.shapes row)
   pub before : AreOffsets t offsets
 
 -- ---- elements

@@ -29,7 +29,7 @@ pub(crate) fn numbers(alloc: Global, table: &Table) -> Result<Vec<u32>, AllocErr
     Ok(numbers)
 }
 
-fn rows(table: &Table) -> Result<u32, AllocError>
+pub(crate) fn rows(table: &Table) -> Result<u32, AllocError>
     ensures { IfOk result (λ count. count ≡ length table.now) }
 {
     u32::try_from(table.len()).map_err(|_| AllocError)
@@ -50,7 +50,7 @@ fn is_open(table: &Table, marks: &[bool], row: u32) -> bool
     }
 }
 
-fn list_if(rows: &mut Vec<u32>, row: u32, is: bool) -> Result<(), AllocError>
+pub(crate) fn list_if(rows: &mut Vec<u32>, row: u32, is: bool) -> Result<(), AllocError>
     ensures { OnOk result (rows.new.items ≡ rows.old.items ++ listed_if is row) }
 {
     if is {
@@ -63,7 +63,7 @@ fn list_if(rows: &mut Vec<u32>, row: u32, is: bool) -> Result<(), AllocError>
 // The first row of a compatible type. Another than its own is only asked about where one of both is open.
 fn first(table: &Table, open_rows: &[u32], row: u32, own_open: bool) -> u32
     requires within { row < length table.now }
-    requires listed { AreListed table.now open_rows.now row }
+    requires listed { AreListed is_open table.now open_rows.now row }
     requires own { own_open ≡ is_open (type_at table.now row) }
     ensures { IsLeastRow (λ r. are_compatible (type_at table.now r) (type_at table.now row)) row result }
 {

@@ -1,14 +1,15 @@
 ghost use Rattle.std.specs.Prelude.{◌≡◌, ◌≤◌, [], false, IfOk, length, sum_by, take, slice_index_or, ℕ};
 ghost use Rattle.cr_check_types.specs.Types.{type_at, type_of, room_of, Qualified};
 ghost use Rattle.cr_typed.specs.Typed.{IsTyped, row_cells, MOST_CELLS};
-ghost use Rattle.cr_meaning_operations.specs.Shapes.{as_value, value_type, number_of, stride_of, form_of, access_by, access_of, structure_of, members_of, offset_in};
+ghost use Rattle.cr_meaning_operations.specs.Shapes.{as_value, value_type, number_of, name_in, as_element, pointed_element, form_of, access_by, access_of, structure_of, members_of, offset_in};
 ghost use Rattle.cr_meaning_operations.specs.Operations.{pointed};
 
+use crate::names::names;
 use crate::numbers::numbers;
 use crate::offsets::{before_member, cells_in, offsets};
 use cr_check_types::Shape;
 use cr_meaning::{Access, Form};
-use cr_memory::Scalar;
+use cr_memory::{Element, Scalar};
 use cr_rows::{Row, entry_at};
 use cr_syntax::CType;
 use cr_typed::Typed;
@@ -21,6 +22,8 @@ pub struct Types<'a> {
     typed: &'a Typed,
     // For each row the number of its type, which pointers are told apart by.
     numbers: Vec<u32>,
+    // For each row what names its type as an element.
+    names: Vec<u32>,
     // For each structure, by its node, the cells before each member and those of all.
     offsets: Vec<Row<u32>>,
 }
@@ -33,21 +36,23 @@ impl<'a> Model for Types<'a> {
 
     ghost view = { λ types. types.typed.now };
 
-    ghost invariant = { λ types. AreNumbered types.typed.now types.numbers.items types.offsets.items };
+    ghost invariant = { λ types. AreNumbered types.typed.now types.numbers.items types.names.items types.offsets.items };
 }
 
 impl<'a> Types<'a> {
     /// The types of a unit. Its time grows with the number of different types, times that of those with an array of unknown size in them,
-    /// and with the members of its structures.
+    /// with the square of that of array types, and with the members of its structures.
     pub fn new(alloc: Global, typed: &'a Typed) -> Result<Types<'a>, AllocError>
         requires { IsTyped typed.now }
         ensures { IfOk result (λ types. types ≡ typed.now) }
     {
         let numbers = numbers(alloc, &typed.shapes)?;
+        let names = names(alloc, typed, numbers.as_slice())?;
         let offsets = offsets(alloc, typed)?;
         Ok(Types {
             typed,
             numbers,
+            names,
             offsets,
         })
     }
@@ -115,6 +120,23 @@ impl<'a> Types<'a> {
         entry_at(&self.numbers, row as usize, 0)
     }
 
+    /// What names a row's type as an element.
+    pub fn name(&self, row: u32) -> u32
+        ensures { result ≡ name_in self.now (type_at self.now.shapes row) }
+    {
+        entry_at(&self.names, row as usize, 0)
+    }
+
+    /// A row's type as an element of an array.
+    pub fn element(&self, row: u32) -> Element
+        ensures { result ≡ as_element self.now (type_at self.now.shapes row) }
+    {
+        Element {
+            cells: self.cells(row),
+            of: self.name(row),
+        }
+    }
+
     /// What a row's type is to the run.
     pub fn form(&self, row: u32) -> Form
         ensures { result ≡ form_of self.now row }
@@ -148,18 +170,18 @@ impl<'a> Types<'a> {
             CType::Pointer(below) => {
                 Access::Scalar(Scalar::Pointer(self.number(below)), shape.volatile)
             }
-            CType::Array(below, _) => Access::Array(self.cells(below), self.cells(row)),
+            CType::Array(below, _) => Access::Array(self.element(below), self.cells(row)),
             _ => Access::Unused,
         }
     }
 
-    /// The cells of what an expression's value points to; 0 where it is no pointer.
-    pub fn stride(&self, node: u32) -> u32
-        ensures { result ≡ stride_of self.now (value_type self.now node) }
+    /// What an expression's value points to; an element without cells where it is no pointer.
+    pub fn pointed_element(&self, node: u32) -> Element
+        ensures { result ≡ pointed_element self.now (value_type self.now node) }
     {
         match self.value(node).of {
-            CType::Pointer(below) => self.cells(below),
-            _ => 0,
+            CType::Pointer(below) => self.element(below),
+            _ => Element { cells: 0, of: 0 },
         }
     }
 

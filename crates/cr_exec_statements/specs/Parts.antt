@@ -7,7 +7,7 @@ use Rattle.cr_memory.specs.declared.value.Trap.{Trap}
 use Rattle.cr_meaning.specs.Language.{went, halts}
 use Rattle.cr_meaning.specs.World.{Program, World, Answer, next, returned, enter_object}
 use Rattle.cr_meaning.specs.Nodes.{Act, resulting, last_in}
-use Rattle.cr_meaning.specs.Values.{asked, converted}
+use Rattle.cr_meaning.specs.Values.{asked, converted, scalar_element}
 use Rattle.cr_meaning.specs.Work.{integer}
 use Rattle.cr_meaning.specs.Meaning.{controlled, strings_of}
 use Rattle.cr_meaning.specs.declared.op.Form.{Form}
@@ -43,11 +43,11 @@ abbrev pub entered_then : Result World (Trap × ℕ) → (World → Result World
 entered_then (Ok world) f = f world
 entered_then (Err case) f = Err case
 
-abbrev pub arguments_entered : Program → ℕ → ℕ → ℕ → World → Result World (Trap × ℕ)
-arguments_entered p object count vector world =
+abbrev pub arguments_entered : Program → Scalar → ℕ → ℕ → ℕ → World → Result World (Trap × ℕ)
+arguments_entered p strings object count vector world =
     entered_then (enter_object world count (record { cells = cell.Number (pos 0) ∷ []; shape = p.shape count }))
-    (λ entered. enter_object entered vector (record { cells = cell.Pointer (At object 0 0 1 1) ∷ []; shape = p.shape vector }))
+    (λ entered. enter_object entered vector (record { cells = cell.Pointer (At object 0 0 1 (scalar_element strings)) ∷ []; shape = p.shape vector }))
 
 abbrev pub strings_entered : Program → Scalar → ℕ → ℕ → World → Result World (Trap × ℕ)
 strings_entered p strings count vector world =
-    entered_then (enter_object world vector (strings_of strings)) (arguments_entered p (length world.memory.objects) count vector)
+    entered_then (enter_object world vector (strings_of strings)) (arguments_entered p strings (length world.memory.objects) count vector)

@@ -19,7 +19,7 @@ use cr_exec_turns::Held;
 use cr_exec_world::{World, blank, shape_for, write};
 use cr_ints::convert;
 use cr_meaning::{Form, Line, Value};
-use cr_memory::{Cell, Pointer, Scalar, Store, Trap};
+use cr_memory::{Cell, Element, Pointer, Scalar, Store, Trap};
 use cr_rows::Row;
 use std::alloc::Global;
 
@@ -40,7 +40,7 @@ fn char_at(store: &Store, object: u32, place: u32) -> Result<Option<Cell>, Trap>
         cell: place,
         low: place,
         high,
-        stride: 1,
+        element: Element { cells: 1, of: 0 },
     };
     match load(store, at, kind) {
         Ok(cell) => Ok(Some(cell)),

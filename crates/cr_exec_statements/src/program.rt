@@ -1,8 +1,9 @@
 // The whole program before and behind main (C11 5.1.2).
-ghost use Rattle.std.specs.Prelude.{◌≡◌, List};
+ghost use Rattle.std.specs.Prelude.{◌≡◌, IfSome, List};
 ghost use Rattle.std.specs.List.{AllZip};
 ghost use Rattle.cr_meaning.specs.World.{Answer};
 ghost use Rattle.cr_meaning.specs.Nodes.{entering, deeper, last_in};
+ghost use Rattle.cr_meaning.specs.Values.{scalar_name, scalar_element};
 ghost use Rattle.cr_meaning.specs.Meaning.{main_entered, program_before, program_end};
 ghost use Rattle.cr_eval.specs.Table.{program_of};
 ghost use Rattle.cr_exec_slices.specs.Shown.{Worked};
@@ -19,25 +20,50 @@ use cr_exec_turns::Held;
 use cr_exec_world::{World, deeper, enter, enter_each, spelled_for};
 use cr_ints::IntKind;
 use cr_meaning::{Parameter, Value};
-use cr_memory::{Cell, Guard, Pointer, Scalar};
+use cr_memory::{Cell, Element, Guard, Pointer, Scalar, place_of};
+
+/// What names a scalar, where its name isn't too large.
+fn scalar_name(kind: Scalar) -> Option<u32>
+    ensures { IfSome result (λ name. name ≡ scalar_name kind) }
+{
+    match kind {
+        Scalar::Int(kind) => Some(place_of(kind)),
+        Scalar::Pointer(to) => {
+            let name = to.checked_mul(3)?.checked_add(12)?;
+            Some(name)
+        }
+    }
+}
+
+/// A scalar as an element.
+fn scalar_element(kind: Scalar) -> Option<Element>
+    ensures { IfSome result (λ element. element ≡ scalar_element kind) }
+{
+    let of = scalar_name(kind)?;
+    Some(Element { cells: 1, of })
+}
 
 /// main's parameters get 0 and a pointer to the array (5.1.2.2.1p2): N3.
 fn enter_arguments(
     table: &Table,
     world: &mut World,
+    strings: Scalar,
     object: u32,
     count: u32,
     vector: u32,
 ) -> Result<(), Halted>
-    ensures work { Worked (entering (arguments_entered (program_of table.now) object count vector (world_of world.old))) result (world_of world.new) }
+    ensures work { Worked (entering (arguments_entered (program_of table.now) strings object count vector (world_of world.old))) result (world_of world.new) }
     ensures steps { world.new.steps ≡ world.old.steps }
 {
+    let Some(element) = scalar_element(strings) else {
+        return Err(Halted::NoMemory);
+    };
     let strings = Pointer::At {
         object,
         cell: 0,
         low: 0,
         high: 1,
-        stride: 1,
+        element,
     };
     let (Some(one), Some(other)) = (spelled_for(table, count), spelled_for(table, vector)) else {
         return Err(Halted::NoMemory);
@@ -66,7 +92,7 @@ fn enter_main(
         &[Cell::Pointer(Pointer::Null)],
     ) {
         Ok(()) => match world.names.find(vector) {
-            Some(object) => enter_arguments(table, world, object, count, vector),
+            Some(object) => enter_arguments(table, world, strings, object, count, vector),
             None => Err(Halted::NoMemory),
         },
         Err(halted) => Err(halted),

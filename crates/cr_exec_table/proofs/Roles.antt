@@ -7,9 +7,9 @@ use Rattle.cr_meaning.specs.declared.op.Operator.TheVariants as operator
 use Rattle.cr_syntax.specs.declared.node.Kind.{Kind}
 use Rattle.cr_syntax.specs.declared.node.Kind.TheVariants as kind
 use Rattle.cr_typed.specs.declared.typed.Typed.{Typed}
-use Rattle.cr_meaning_operations.specs.Shapes.{type_of_node, stride_of, kind_in, is_pointer}
+use Rattle.cr_meaning_operations.specs.Shapes.{type_of_node, pointed_element, kind_in, is_pointer}
 use Rattle.cr_meaning_operations.specs.Operations.{kind_at, parts_at, node_op, left_type, right_type, constant_by, value_or, op_by, common_kind}
-use Rattle.cr_exec_table.specs.Roles.{role_of, op_in, op_at, duty_work, reach_work, leaf_work, sum_change}
+use Rattle.cr_exec_table.specs.Roles.{role_of, assignment_role, binary_role, unary_role, statement_role, op_in, op_at, duty_work, reach_work, leaf_work, sum_change}
 
 node_if : (b : Bool) (parts : List ℕ) (x y : Work) → node_op parts (if b then x else y) ≡ (if b then node_op parts x else node_op parts y)
 node_if true parts x y = refl
@@ -26,9 +26,9 @@ comparison_is t node relation =
     node_if (is_pointer (left_type t node) || is_pointer (right_type t node)) (parts_at t node) (work.ComparePointers relation) (work.Compare relation (common_kind (left_type t node) (right_type t node)))
 
 same : (t : Typed) (node : ℕ) (k : Kind) → op_in t node (role_of k) ≡ op_by t node k
-unfolding op_in role_of duty_work reach_work leaf_work
+unfolding op_in role_of assignment_role binary_role unary_role statement_role duty_work reach_work leaf_work
 same t node kind.Subtract =
-    node_if (is_pointer (left_type t node) && is_pointer (right_type t node)) (parts_at t node) (work.Distance (stride_of t (left_type t node))) (work.Binary (sum_change t node operator.Subtract true))
+    node_if (is_pointer (left_type t node) && is_pointer (right_type t node)) (parts_at t node) (work.Distance (pointed_element t (left_type t node))) (work.Binary (sum_change t node operator.Subtract true))
 same t node kind.Equal = comparison_is t node _
 same t node kind.NotEqual = comparison_is t node _
 same t node kind.Less = comparison_is t node _

@@ -1,5 +1,5 @@
 -- What each kind of node asks of the table, in the few ways in which an operation is made.
-use Rattle.std.specs.Prelude.{ℕ, ℤ, Bool, true, false, not, ◌&&◌, ◌||◌, None, [], ◌∷◌, map, slice_index_or, if◌then◌else◌}
+use Rattle.std.specs.Prelude.{ℕ, ℤ, Bool, true, false, not, ◌&&◌, ◌||◌, Option, Some, None, [], ◌∷◌, map, slice_index_or, if◌then◌else◌}
 use Rattle.cr_ints.specs.Conversions.{promote_of, common_of}
 use Rattle.cr_ints.specs.declared.kind.IntKind.TheVariants.{Int as IntegerKind, Char as CharKind}
 use Rattle.cr_meaning.specs.declared.op.Op.{Op}
@@ -16,10 +16,9 @@ use Rattle.cr_syntax.specs.declared.ctype.CType.TheVariants.{Int}
 use Rattle.cr_syntax.specs.declared.node.Kind.{Kind}
 use Rattle.cr_syntax.specs.declared.node.Kind.TheVariants as kind
 use Rattle.cr_typed.specs.declared.typed.Typed.{Typed}
-use Rattle.cr_typed.specs.Typed.{row_cells}
-use Rattle.cr_check_types.specs.Types.{Qualified, plain}
-use Rattle.cr_meaning_operations.specs.Shapes.{type_of_node, stride_of, kind_in, is_pointer, is_volatile, form_of, cells_of, offset_in}
-use Rattle.cr_meaning_operations.specs.Operations.{kind_at, parts_at, part_at, entity_of, name_of, declarators_of, objects_in, line_of, node_op, change_of, common_kind, left_type, right_type, left_row, placed, either_stride, address_by, pointed, chosen_row, value_or, identifier_by, op_of, callee_of, for_of, labelled, targets_from, switch_of}
+use Rattle.cr_check_types.specs.Types.{Qualified, plain, type_at}
+use Rattle.cr_meaning_operations.specs.Shapes.{type_of_node, kind_in, is_pointer, is_volatile, form_of, cells_of, offset_in, name_in, as_element, pointed_element}
+use Rattle.cr_meaning_operations.specs.Operations.{kind_at, parts_at, part_at, entity_of, name_of, declarators_of, objects_in, line_of, node_op, change_of, common_kind, left_type, right_type, left_row, placed, either_element, address_by, pointed, chosen_row, value_or, identifier_by, op_of, callee_of, for_of, labelled, targets_from, switch_of}
 use Rattle.cr_exec_table.specs.declared.role.Role.{Role}
 use Rattle.cr_exec_table.specs.declared.role.Role.TheVariants as role
 use Rattle.cr_exec_table.specs.declared.role.Duty.{Duty}
@@ -31,81 +30,101 @@ use Rattle.cr_exec_table.specs.declared.role.Leaf.TheVariants as leaf
 
 -- ---- kinds of nodes
 
+-- assignments, `++` and `--`
+unfoldable pub assignment_role : Kind → Option Role
+assignment_role kind.Assign = Some (role.Worker duty.Assign)
+assignment_role kind.MultiplyAssign = Some (role.Worker (duty.UpdatedIntegers operator.Multiply))
+assignment_role kind.DivideAssign = Some (role.Worker (duty.UpdatedIntegers operator.Divide))
+assignment_role kind.RemainderAssign = Some (role.Worker (duty.UpdatedIntegers operator.Remainder))
+assignment_role kind.AddAssign = Some (role.Worker (duty.UpdatedSum operator.Add false))
+assignment_role kind.SubtractAssign = Some (role.Worker (duty.UpdatedSum operator.Subtract true))
+assignment_role kind.ShiftLeftAssign = Some (role.Worker (duty.UpdatedShift operator.ShiftLeft))
+assignment_role kind.ShiftRightAssign = Some (role.Worker (duty.UpdatedShift operator.ShiftRight))
+assignment_role kind.AndAssign = Some (role.Worker (duty.UpdatedIntegers operator.And))
+assignment_role kind.XorAssign = Some (role.Worker (duty.UpdatedIntegers operator.Xor))
+assignment_role kind.OrAssign = Some (role.Worker (duty.UpdatedIntegers operator.Or))
+assignment_role kind.PreIncrement = Some (role.Worker (duty.Increment operator.Add false false))
+assignment_role kind.PreDecrement = Some (role.Worker (duty.Increment operator.Subtract true false))
+assignment_role kind.PostIncrement = Some (role.Worker (duty.Increment operator.Add false true))
+assignment_role kind.PostDecrement = Some (role.Worker (duty.Increment operator.Subtract true true))
+assignment_role other = None
+
+-- operators of several operands
+unfoldable pub binary_role : Kind → Option Role
+binary_role kind.Comma = Some (role.Worker duty.Comma)
+binary_role kind.Conditional = Some (role.Worker duty.Conditional)
+binary_role kind.LogicalOr = Some (role.Worker duty.LogicalOr)
+binary_role kind.LogicalAnd = Some (role.Worker duty.LogicalAnd)
+binary_role kind.Or = Some (role.Worker (duty.Integers operator.Or))
+binary_role kind.Xor = Some (role.Worker (duty.Integers operator.Xor))
+binary_role kind.And = Some (role.Worker (duty.Integers operator.And))
+binary_role kind.Equal = Some (role.Worker (duty.Comparison relation.Equal))
+binary_role kind.NotEqual = Some (role.Worker (duty.Comparison relation.NotEqual))
+binary_role kind.Less = Some (role.Worker (duty.Comparison relation.Less))
+binary_role kind.Greater = Some (role.Worker (duty.Comparison relation.Greater))
+binary_role kind.LessEqual = Some (role.Worker (duty.Comparison relation.LessEqual))
+binary_role kind.GreaterEqual = Some (role.Worker (duty.Comparison relation.GreaterEqual))
+binary_role kind.ShiftLeft = Some (role.Worker (duty.Shift operator.ShiftLeft))
+binary_role kind.ShiftRight = Some (role.Worker (duty.Shift operator.ShiftRight))
+binary_role kind.Add = Some (role.Worker duty.Sum)
+binary_role kind.Subtract = Some (role.Worker duty.Difference)
+binary_role kind.Multiply = Some (role.Worker (duty.Integers operator.Multiply))
+binary_role kind.Divide = Some (role.Worker (duty.Integers operator.Divide))
+binary_role kind.Remainder = Some (role.Worker (duty.Integers operator.Remainder))
+binary_role other = None
+
+-- operators of one operand, places and what has no operands
+unfoldable pub unary_role : Kind → Option Role
+unary_role kind.Cast = Some role.Cast
+unary_role kind.AddressOf = Some role.Address
+unary_role kind.Dereference = Some (role.Placer reach.Dereference)
+unary_role kind.Plus = Some (role.Worker (duty.Unary sign.Plus))
+unary_role kind.Minus = Some (role.Worker (duty.Unary sign.Minus))
+unary_role kind.Complement = Some (role.Worker (duty.Unary sign.Complement))
+unary_role kind.Not = Some (role.Worker duty.Not)
+unary_role kind.SizeofExpression = Some (role.Single leaf.Constant)
+unary_role kind.SizeofType = Some (role.Single leaf.Constant)
+unary_role kind.Call = Some role.Call
+unary_role kind.Subscript = Some (role.Placer reach.Subscript)
+unary_role kind.Member = Some (role.Placer reach.Member)
+unary_role kind.PointerMember = Some (role.Placer reach.PointerMember)
+unary_role kind.Identifier = Some role.Identifier
+unary_role kind.Integer = Some (role.Single leaf.Constant)
+unary_role kind.Character = Some (role.Single leaf.Constant)
+unary_role kind.Text = Some role.Text
+unary_role kind.Group = Some (role.Placer reach.Group)
+unary_role other = None
+
+-- statements, declarations and declarators
+unfoldable pub statement_role : Kind → Role
+statement_role kind.Compound = role.Block
+statement_role kind.ExpressionStatement = role.Worker duty.Expression
+statement_role kind.If = role.Worker duty.If
+statement_role kind.Switch = role.Switch
+statement_role kind.While = role.Worker duty.While
+statement_role kind.Do = role.Worker duty.Do
+statement_role kind.For = role.For
+statement_role kind.Label = role.Labelled
+statement_role kind.Case = role.Labelled
+statement_role kind.Default = role.Labelled
+statement_role kind.Goto = role.Single leaf.Goto
+statement_role kind.Break = role.Single leaf.Break
+statement_role kind.Continue = role.Single leaf.Continue
+statement_role kind.Return = role.Worker duty.Return
+statement_role kind.InitDeclarator = role.Initialise
+statement_role kind.Declaration = role.Declaration
+statement_role kind.NameDeclarator = role.Single leaf.Name
+statement_role kind.PointerDeclarator = role.Single leaf.Declarator
+statement_role kind.GroupDeclarator = role.Single leaf.Declarator
+statement_role kind.ArrayDeclarator = role.Single leaf.Declarator
+statement_role other = role.Single leaf.Nothing
+
+abbrev pub role_or : Option Role → Role → Role
+role_or (Some role) other = role
+role_or None other = other
+
 unfoldable pub role_of : Kind → Role
-role_of kind.Comma = role.Worker duty.Comma
-role_of kind.Assign = role.Worker duty.Assign
-role_of kind.MultiplyAssign = role.Worker (duty.UpdatedIntegers operator.Multiply)
-role_of kind.DivideAssign = role.Worker (duty.UpdatedIntegers operator.Divide)
-role_of kind.RemainderAssign = role.Worker (duty.UpdatedIntegers operator.Remainder)
-role_of kind.AddAssign = role.Worker (duty.UpdatedSum operator.Add false)
-role_of kind.SubtractAssign = role.Worker (duty.UpdatedSum operator.Subtract true)
-role_of kind.ShiftLeftAssign = role.Worker (duty.UpdatedShift operator.ShiftLeft)
-role_of kind.ShiftRightAssign = role.Worker (duty.UpdatedShift operator.ShiftRight)
-role_of kind.AndAssign = role.Worker (duty.UpdatedIntegers operator.And)
-role_of kind.XorAssign = role.Worker (duty.UpdatedIntegers operator.Xor)
-role_of kind.OrAssign = role.Worker (duty.UpdatedIntegers operator.Or)
-role_of kind.Conditional = role.Worker duty.Conditional
-role_of kind.LogicalOr = role.Worker duty.LogicalOr
-role_of kind.LogicalAnd = role.Worker duty.LogicalAnd
-role_of kind.Or = role.Worker (duty.Integers operator.Or)
-role_of kind.Xor = role.Worker (duty.Integers operator.Xor)
-role_of kind.And = role.Worker (duty.Integers operator.And)
-role_of kind.Equal = role.Worker (duty.Comparison relation.Equal)
-role_of kind.NotEqual = role.Worker (duty.Comparison relation.NotEqual)
-role_of kind.Less = role.Worker (duty.Comparison relation.Less)
-role_of kind.Greater = role.Worker (duty.Comparison relation.Greater)
-role_of kind.LessEqual = role.Worker (duty.Comparison relation.LessEqual)
-role_of kind.GreaterEqual = role.Worker (duty.Comparison relation.GreaterEqual)
-role_of kind.ShiftLeft = role.Worker (duty.Shift operator.ShiftLeft)
-role_of kind.ShiftRight = role.Worker (duty.Shift operator.ShiftRight)
-role_of kind.Add = role.Worker duty.Sum
-role_of kind.Subtract = role.Worker duty.Difference
-role_of kind.Multiply = role.Worker (duty.Integers operator.Multiply)
-role_of kind.Divide = role.Worker (duty.Integers operator.Divide)
-role_of kind.Remainder = role.Worker (duty.Integers operator.Remainder)
-role_of kind.Cast = role.Cast
-role_of kind.PreIncrement = role.Worker (duty.Increment operator.Add false false)
-role_of kind.PreDecrement = role.Worker (duty.Increment operator.Subtract true false)
-role_of kind.AddressOf = role.Address
-role_of kind.Dereference = role.Placer reach.Dereference
-role_of kind.Plus = role.Worker (duty.Unary sign.Plus)
-role_of kind.Minus = role.Worker (duty.Unary sign.Minus)
-role_of kind.Complement = role.Worker (duty.Unary sign.Complement)
-role_of kind.Not = role.Worker duty.Not
-role_of kind.SizeofExpression = role.Single leaf.Constant
-role_of kind.SizeofType = role.Single leaf.Constant
-role_of kind.Call = role.Call
-role_of kind.Subscript = role.Placer reach.Subscript
-role_of kind.Member = role.Placer reach.Member
-role_of kind.PointerMember = role.Placer reach.PointerMember
-role_of kind.PostIncrement = role.Worker (duty.Increment operator.Add false true)
-role_of kind.PostDecrement = role.Worker (duty.Increment operator.Subtract true true)
-role_of kind.Identifier = role.Identifier
-role_of kind.Integer = role.Single leaf.Constant
-role_of kind.Character = role.Single leaf.Constant
-role_of kind.Text = role.Text
-role_of kind.Group = role.Placer reach.Group
-role_of kind.Compound = role.Block
-role_of kind.ExpressionStatement = role.Worker duty.Expression
-role_of kind.If = role.Worker duty.If
-role_of kind.Switch = role.Switch
-role_of kind.While = role.Worker duty.While
-role_of kind.Do = role.Worker duty.Do
-role_of kind.For = role.For
-role_of kind.Label = role.Labelled
-role_of kind.Case = role.Labelled
-role_of kind.Default = role.Labelled
-role_of kind.Goto = role.Single leaf.Goto
-role_of kind.Break = role.Single leaf.Break
-role_of kind.Continue = role.Single leaf.Continue
-role_of kind.Return = role.Worker duty.Return
-role_of kind.InitDeclarator = role.Initialise
-role_of kind.Declaration = role.Declaration
-role_of kind.NameDeclarator = role.Single leaf.Name
-role_of kind.PointerDeclarator = role.Single leaf.Declarator
-role_of kind.GroupDeclarator = role.Single leaf.Declarator
-role_of kind.ArrayDeclarator = role.Single leaf.Declarator
-role_of other = role.Single leaf.Nothing
+role_of kind = role_or (assignment_role kind) (role_or (binary_role kind) (role_or (unary_role kind) (statement_role kind)))
 
 -- ---- operators and statements whose parts are evaluated
 
@@ -128,7 +147,7 @@ one_change t node op back =
 abbrev pub difference_work : Typed → ℕ → Work
 difference_work t node =
     if is_pointer (left_type t node) && is_pointer (right_type t node)
-    then work.Distance (stride_of t (left_type t node))
+    then work.Distance (pointed_element t (left_type t node))
     else work.Binary (sum_change t node operator.Subtract true)
 
 abbrev pub comparison_work : Typed → ℕ → Relation → Work
@@ -164,15 +183,15 @@ duty_work t node duty.Return = work.Return (form_of t (slice_index_or t.named no
 
 abbrev pub member_work : Typed → ℕ → Qualified → Work
 member_work t node structure =
-    work.Member (cells_of t structure) (offset_in t structure (slice_index_or t.chosen node 0)) (row_cells t (chosen_row t node structure)) (form_of t (chosen_row t node structure))
+    work.Member (cells_of t structure) (offset_in t structure (slice_index_or t.chosen node 0)) (as_element t (type_at t.shapes (chosen_row t node structure))) (form_of t (chosen_row t node structure))
 
 abbrev pub pointer_member_work : Typed → ℕ → Qualified → Work
 pointer_member_work t node structure =
-    work.PointerMember (cells_of t structure) (offset_in t structure (slice_index_or t.chosen node 0)) (row_cells t (chosen_row t node structure))
+    work.PointerMember (as_element t structure) (offset_in t structure (slice_index_or t.chosen node 0)) (as_element t (type_at t.shapes (chosen_row t node structure)))
 
 unfoldable pub reach_work : Typed → ℕ → Reach → Work
-reach_work t node reach.Dereference = work.Dereference (stride_of t (left_type t node))
-reach_work t node reach.Subscript = work.Subscript (either_stride t (left_type t node) (right_type t node))
+reach_work t node reach.Dereference = work.Dereference (pointed_element t (left_type t node))
+reach_work t node reach.Subscript = work.Subscript (either_element t (left_type t node) (right_type t node))
 reach_work t node reach.Member = member_work t node (type_of_node t (part_at t node 0))
 reach_work t node reach.PointerMember = pointer_member_work t node (pointed (left_type t node))
 reach_work t node reach.Group = work.Pass
@@ -208,7 +227,7 @@ unfoldable pub op_in : Typed → ℕ → Role → Op
 op_in t node (role.Worker duty) = node_op (parts_at t node) (duty_work t node duty)
 op_in t node (role.Placer reach) = placed t node (parts_at t node) (reach_work t node reach)
 op_in t node (role.Single leaf) = node_op [] (leaf_work t node leaf)
-op_in t node role.Text = placed t node [] (work.Object node)
+op_in t node role.Text = placed t node [] (work.Object node (name_in t (type_of_node t node)))
 op_in t node role.Identifier = identifier_by t node (slice_index_or t.constants node None)
 op_in t node role.Cast = node_op (part_at t node 1 ∷ []) (work.Cast (form_of t (slice_index_or t.named node 0)))
 op_in t node role.Address = address_by t node (part_at t node 0) (kind_at t (part_at t node 0))

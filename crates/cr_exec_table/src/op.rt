@@ -10,7 +10,7 @@ use crate::loops::for_op;
 use crate::nodes::Nodes;
 use crate::role::{Role, role_of};
 use crate::work::{
-    constant_at, constant_of, duty_work, either_stride, leaf_work, promoted, reach_work,
+    constant_at, constant_of, duty_work, either_element, leaf_work, promoted, reach_work,
 };
 use cr_exec_shapes::Types;
 use cr_meaning::{Access, Change, Line, Op, Work};
@@ -42,7 +42,13 @@ fn op_in(alloc: Global, nodes: &Nodes, node: u32, role: Role) -> Result<Op, Allo
             reach_work(types, node, reach),
         ),
         Role::Single(leaf) => Ok(alone(alloc, leaf_work(nodes, node, leaf))),
-        Role::Text => placed(alloc, types, node, &[], Work::Object(node)),
+        Role::Text => placed(
+            alloc,
+            types,
+            node,
+            &[],
+            Work::Object(node, types.name(types.row(node))),
+        ),
         Role::Identifier => identifier(alloc, nodes, node),
         Role::Cast => with_one(
             alloc,
@@ -124,7 +130,11 @@ fn identifier(alloc: Global, nodes: &Nodes, node: u32) -> Result<Op, AllocError>
 {
     let types = nodes.types();
     match constant_at(types, node) {
-        None => placed(alloc, types, node, &[], Work::Object(nodes.entity(node))),
+        None => {
+            let entity = nodes.entity(node);
+            let of = types.name(types.named_row(entity));
+            placed(alloc, types, node, &[], Work::Object(entity, of))
+        }
         Some(value) => Ok(alone(alloc, constant_of(types, node, value))),
     }
 }
@@ -136,7 +146,7 @@ fn address(alloc: Global, types: &Types, node: u32, operand: u32) -> Result<Op, 
     match types.kind(operand) {
         Kind::Dereference => whole(alloc, types, operand, Work::Pass),
         Kind::Subscript => {
-            let change = Change::Move(false, either_stride(types, operand));
+            let change = Change::Move(false, either_element(types, operand));
             whole(alloc, types, operand, Work::Binary(change))
         }
         _ => whole(alloc, types, node, Work::AddressOf),

@@ -1,5 +1,5 @@
 ghost use Rattle.std.specs.Prelude.{◌≡◌};
-ghost use Rattle.cr_exec_table.specs.Roles.{role_of};
+ghost use Rattle.cr_exec_table.specs.Roles.{role_of, assignment_role, binary_role, unary_role, statement_role};
 
 use cr_meaning::{Operator, Relation, Sign};
 use cr_syntax::Kind;
@@ -81,8 +81,24 @@ pub(crate) enum Leaf {
 pub(crate) fn role_of(kind: Kind) -> Role
     ensures { result ≡ role_of kind }
 {
-    match kind {
-        Kind::Comma => Role::Worker(Duty::Comma),
+    if let Some(role) = assignment_role(kind) {
+        return role;
+    }
+    if let Some(role) = binary_role(kind) {
+        return role;
+    }
+    match unary_role(kind) {
+        Some(role) => role,
+        None => statement_role(kind),
+    }
+}
+
+// Assignments, `++` and `--`.
+#[tactic(auto, unfolding(crate::specs::Roles::assignment_role))]
+fn assignment_role(kind: Kind) -> Option<Role>
+    ensures { result ≡ assignment_role kind }
+{
+    Some(match kind {
         Kind::Assign => Role::Worker(Duty::Assign),
         Kind::MultiplyAssign => Role::Worker(Duty::UpdatedIntegers(Operator::Multiply)),
         Kind::DivideAssign => Role::Worker(Duty::UpdatedIntegers(Operator::Divide)),
@@ -94,6 +110,21 @@ pub(crate) fn role_of(kind: Kind) -> Role
         Kind::AndAssign => Role::Worker(Duty::UpdatedIntegers(Operator::And)),
         Kind::XorAssign => Role::Worker(Duty::UpdatedIntegers(Operator::Xor)),
         Kind::OrAssign => Role::Worker(Duty::UpdatedIntegers(Operator::Or)),
+        Kind::PreIncrement => Role::Worker(Duty::Increment(Operator::Add, false, false)),
+        Kind::PreDecrement => Role::Worker(Duty::Increment(Operator::Subtract, true, false)),
+        Kind::PostIncrement => Role::Worker(Duty::Increment(Operator::Add, false, true)),
+        Kind::PostDecrement => Role::Worker(Duty::Increment(Operator::Subtract, true, true)),
+        _ => return None,
+    })
+}
+
+// Operators of several operands.
+#[tactic(auto, unfolding(crate::specs::Roles::binary_role))]
+fn binary_role(kind: Kind) -> Option<Role>
+    ensures { result ≡ binary_role kind }
+{
+    Some(match kind {
+        Kind::Comma => Role::Worker(Duty::Comma),
         Kind::Conditional => Role::Worker(Duty::Conditional),
         Kind::LogicalOr => Role::Worker(Duty::LogicalOr),
         Kind::LogicalAnd => Role::Worker(Duty::LogicalAnd),
@@ -113,9 +144,17 @@ pub(crate) fn role_of(kind: Kind) -> Role
         Kind::Multiply => Role::Worker(Duty::Integers(Operator::Multiply)),
         Kind::Divide => Role::Worker(Duty::Integers(Operator::Divide)),
         Kind::Remainder => Role::Worker(Duty::Integers(Operator::Remainder)),
+        _ => return None,
+    })
+}
+
+// Operators of one operand, places and what has no operands.
+#[tactic(auto, unfolding(crate::specs::Roles::unary_role))]
+fn unary_role(kind: Kind) -> Option<Role>
+    ensures { result ≡ unary_role kind }
+{
+    Some(match kind {
         Kind::Cast => Role::Cast,
-        Kind::PreIncrement => Role::Worker(Duty::Increment(Operator::Add, false, false)),
-        Kind::PreDecrement => Role::Worker(Duty::Increment(Operator::Subtract, true, false)),
         Kind::AddressOf => Role::Address,
         Kind::Dereference => Role::Placer(Reach::Dereference),
         Kind::Plus => Role::Worker(Duty::Unary(Sign::Plus)),
@@ -128,13 +167,21 @@ pub(crate) fn role_of(kind: Kind) -> Role
         Kind::Subscript => Role::Placer(Reach::Subscript),
         Kind::Member => Role::Placer(Reach::Member),
         Kind::PointerMember => Role::Placer(Reach::PointerMember),
-        Kind::PostIncrement => Role::Worker(Duty::Increment(Operator::Add, false, true)),
-        Kind::PostDecrement => Role::Worker(Duty::Increment(Operator::Subtract, true, true)),
         Kind::Identifier => Role::Identifier,
         Kind::Integer => Role::Single(Leaf::Constant),
         Kind::Character => Role::Single(Leaf::Constant),
         Kind::Text => Role::Text,
         Kind::Group => Role::Placer(Reach::Group),
+        _ => return None,
+    })
+}
+
+// Statements, declarations and declarators.
+#[tactic(auto, unfolding(crate::specs::Roles::statement_role))]
+fn statement_role(kind: Kind) -> Role
+    ensures { result ≡ statement_role kind }
+{
+    match kind {
         Kind::Compound => Role::Block,
         Kind::ExpressionStatement => Role::Worker(Duty::Expression),
         Kind::If => Role::Worker(Duty::If),

@@ -2,7 +2,7 @@ ghost use Rattle.std.specs.Prelude.{◌≡◌, None, ℕ, slice_index_or};
 ghost use Rattle.cr_ints.specs.Conversions.{promote_of};
 ghost use Rattle.cr_check_types.specs.Types.{type_at, type_of, Qualified};
 ghost use Rattle.cr_meaning_operations.specs.Shapes.{value_type, kind_in, is_pointer};
-ghost use Rattle.cr_meaning_operations.specs.Operations.{common_kind, left_type, right_type, change_of, either_stride, left_row, chosen_row, value_or};
+ghost use Rattle.cr_meaning_operations.specs.Operations.{common_kind, left_type, right_type, change_of, either_element, left_row, chosen_row, value_or};
 ghost use Rattle.cr_exec_table.specs.Roles.{duty_work, reach_work, leaf_work, update_work, both_kinds, own_kind, sum_change, one_change, difference_work, comparison_work, member_work, pointer_member_work, constant_work};
 
 use crate::nodes::Nodes;
@@ -11,6 +11,7 @@ use cr_check_types::Shape;
 use cr_exec_shapes::Types;
 use cr_ints::{IntKind, common, promote};
 use cr_meaning::{Change, Operator, Relation, Work};
+use cr_memory::Element;
 use cr_rows::entry_at;
 use cr_syntax::CType;
 
@@ -125,7 +126,7 @@ fn change(
 {
     match (left.of, right.of) {
         (CType::Pointer(below), _) | (_, CType::Pointer(below)) => {
-            Change::Move(back, types.cells(below))
+            Change::Move(back, types.element(below))
         }
         _ => Change::Arithmetic(op, kind),
     }
@@ -142,7 +143,7 @@ fn difference(types: &Types, node: u32) -> Work
 {
     let left = types.part(node, 0);
     if is_pointer(types, left) && is_pointer(types, types.part(node, 1)) {
-        Work::Distance(types.stride(left))
+        Work::Distance(types.pointed_element(left))
     } else {
         Work::Binary(sum(types, node, Operator::Subtract, true))
     }
@@ -171,21 +172,21 @@ pub(crate) fn reach_work(types: &Types, node: u32, reach: Reach) -> Work
     ensures { result ≡ reach_work types.now node reach }
 {
     match reach {
-        Reach::Dereference => Work::Dereference(types.stride(types.part(node, 0))),
-        Reach::Subscript => Work::Subscript(either_stride(types, node)),
+        Reach::Dereference => Work::Dereference(types.pointed_element(types.part(node, 0))),
+        Reach::Subscript => Work::Subscript(either_element(types, node)),
         Reach::Member => member(types, node, types.row(types.part(node, 0))),
         Reach::PointerMember => pointer_member(types, node, types.pointed(types.part(node, 0))),
         Reach::Group => Work::Pass,
     }
 }
 
-/// The cells of an element that `[]` reaches: what either operand points to (6.5.2.1p2).
-pub(crate) fn either_stride(types: &Types, node: u32) -> u32
-    ensures { result ≡ either_stride types.now (left_type types.now node) (right_type types.now node) }
+/// The element that `[]` reaches: what either operand points to (6.5.2.1p2).
+pub(crate) fn either_element(types: &Types, node: u32) -> Element
+    ensures { result ≡ either_element types.now (left_type types.now node) (right_type types.now node) }
 {
     match types.value(types.part(node, 0)).of {
-        CType::Pointer(below) => types.cells(below),
-        _ => types.stride(types.part(node, 1)),
+        CType::Pointer(below) => types.element(below),
+        _ => types.pointed_element(types.part(node, 1)),
     }
 }
 
@@ -216,7 +217,7 @@ fn member(types: &Types, node: u32, row: u32) -> Work
     Work::Member(
         types.cells(row),
         offset,
-        types.cells(member),
+        types.element(member),
         types.form(member),
     )
 }
@@ -226,7 +227,7 @@ fn pointer_member(types: &Types, node: u32, row: u32) -> Work
 {
     let member = chosen_row(types, node, row);
     let offset = types.offset(row, chosen(types, node));
-    Work::PointerMember(types.cells(row), offset, types.cells(member))
+    Work::PointerMember(types.element(row), offset, types.element(member))
 }
 
 /// The work of a node without operands.

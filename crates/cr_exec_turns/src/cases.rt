@@ -1,4 +1,6 @@
 // The cases of a `switch` (C11 6.8.4.2p5).
+#![tactic(auto, using(crate::proofs::Turning::known_is, crate::proofs::Turning::last_is))]
+
 ghost use Rattle.std.specs.Prelude.{◌≡◌, IfSome};
 ghost use Rattle.cr_ints.specs.Conversions.{convert_of};
 ghost use Rattle.cr_exec_turns.specs.Kept.{is_case, value_case, case_for};

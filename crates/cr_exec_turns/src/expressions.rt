@@ -1,4 +1,6 @@
 // Expressions (C11 6.5).
+#![tactic(auto, using(crate::proofs::Turning::known_is, crate::proofs::Turning::last_is))]
+
 ghost use Rattle.std.specs.Prelude.{◌≡◌, true, List};
 ghost use Rattle.std.specs.List.{AllZip};
 ghost use Rattle.cr_eval_join.specs.Turns.{is_expression};

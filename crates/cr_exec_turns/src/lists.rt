@@ -1,4 +1,6 @@
 // Lists of items: blocks, the bodies of `switch`, the whole program (C11 6.8.2, 6.8.4.2, 6.8.6.1).
+#![tactic(auto, using(crate::proofs::Turning::known_is, crate::proofs::Turning::last_is))]
+
 ghost use Rattle.std.specs.Prelude.{◌≡◌, drop, slice_get};
 ghost use Rattle.cr_meaning.specs.Turns.{item_at};
 ghost use Rattle.cr_exec_turns.specs.Kept.{is_passed, resume_behind, resume_at, after_item, block_way, switch_way, program_way, Known};

@@ -1,4 +1,6 @@
 // Selection and iteration (C11 6.8.4, 6.8.5).
+#![tactic(auto, using(crate::proofs::Turning::known_is, crate::proofs::Turning::last_is))]
+
 ghost use Rattle.std.specs.Prelude.{◌≡◌};
 ghost use Rattle.cr_exec_turns.specs.Kept.{begin_way, if_way, while_way, do_way, for_way};
 

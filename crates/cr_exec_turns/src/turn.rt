@@ -1,4 +1,6 @@
 // All nodes.
+#![tactic(auto, using(crate::proofs::Turning::known_is, crate::proofs::Turning::last_is))]
+
 ghost use Rattle.std.specs.Prelude.{◌≡◌, ◌≢◌, true, List};
 ghost use Rattle.std.specs.List.{AllZip};
 ghost use Rattle.cr_meaning.specs.World.{Answer};

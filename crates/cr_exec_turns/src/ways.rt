@@ -1,4 +1,6 @@
 // Small steps of all kinds of nodes.
+#![tactic(auto, using(crate::proofs::Turning::known_is, crate::proofs::Turning::last_is))]
+
 ghost use Rattle.std.specs.Prelude.{◌≡◌, slice_get};
 ghost use Rattle.cr_exec_turns.specs.Kept.{operand, entering, operand_or, choose, truth_in, goes_on, on, last_of, body_way};
 

@@ -1,4 +1,6 @@
 // The cells of an object, set whatever their guards.
+#![tactic(auto, using(crate::proofs::Working::worked, crate::proofs::Working::unsaid, crate::proofs::Working::left, crate::proofs::Working::undefined))]
+
 ghost use Rattle.std.specs.Prelude.{◌≡◌, Ok, true, false, [], ◌∷◌, map, IsTrue, IfOk};
 ghost use Rattle.cr_memory.specs.Memory.{zero_of};
 ghost use Rattle.cr_memory.specs.Access.{with_cells};

@@ -1,7 +1,7 @@
 //! The world of a run (C11 6.2.4): its memory, what it has printed, the steps that are left, how many calls run, and which object
 //! each name has. It promises that to reach a node, to open a block, to close one and to set an object's cells is what the meaning
 //! says, or its first case. It stands on the own work of expressions, the memory and the meaning.
-#![tactic(auto, using(crate::proofs::Working::worked, crate::proofs::Working::unsaid, crate::proofs::Working::left, crate::proofs::Working::undefined))]
+#![tactic(auto)]
 
 mod cells;
 mod names;

@@ -1,4 +1,6 @@
 // The objects of names.
+#![tactic(auto, using(crate::proofs::Working::worked, crate::proofs::Working::unsaid, crate::proofs::Working::left, crate::proofs::Working::undefined))]
+
 ghost use Rattle.std.specs.Prelude.{◌≡◌, [], ◌∷◌, MatchOption, OnOk, IfOk, IfErr};
 ghost use Rattle.cr_meaning.specs.World.{object_for, bound, mark};
 ghost use Rattle.cr_exec_world.specs.Names.{binding_of};

@@ -1,4 +1,6 @@
 // Objects and their lifetimes (C11 6.2.4).
+#![tactic(auto, using(crate::proofs::Working::worked, crate::proofs::Working::unsaid, crate::proofs::Working::left, crate::proofs::Working::undefined))]
+
 ghost use Rattle.std.specs.Prelude.{◌≡◌, None, Some, ◌∷◌, IfErr, OnOk, MatchOption, IfSome};
 ghost use Rattle.cr_memory.specs.Memory.{new_object};
 ghost use Rattle.cr_meaning.specs.World.{enter_object, enter_all, bound, marked, left_by, closed, next};

@@ -1,4 +1,6 @@
 // Steps.
+#![tactic(auto, using(crate::proofs::Working::worked, crate::proofs::Working::unsaid, crate::proofs::Working::left, crate::proofs::Working::undefined))]
+
 ghost use Rattle.std.specs.Prelude.{◌≡◌, slice_get};
 ghost use Rattle.cr_meaning.specs.Meaning.{takes_step, reached, reached_by, stepped};
 ghost use Rattle.cr_meaning.specs.Nodes.{Act};

@@ -3,6 +3,7 @@ use Rattle.std.proofs.Common.{◌≡◌, refl, sym, ◌∙◌, subst}
 use Rattle.std.specs.Prelude.{ℕ, zero, suc, ◌==◌, Bool, true, false, Option, Some, None, Result, Ok, Err, List, [], ◌∷◌, ◌++◌, map, length, slice_get, if◌then◌else◌}
 use Rattle.std.proofs.lemmas.List.Folds.{list_any-append}
 use Rattle.std.proofs.lemmas.Bool.{or_from, or_parts, false≢true}
+use Rattle.cr_memory.specs.declared.value.Element.{Element}
 use Rattle.cr_memory.specs.declared.value.Pointer.{Pointer}
 use Rattle.cr_memory.specs.declared.value.Trap.{Trap}
 use Rattle.cr_memory.specs.Memory.{Memory}
@@ -11,7 +12,7 @@ use Rattle.cr_meaning.specs.Language.{Acted, went, Reply, gave, ended, Prog, giv
 use Rattle.cr_meaning.specs.Events.{Event, Step, Order, Reads, below, gathered, operands_clash, clash}
 use Rattle.cr_meaning.specs.Quiet.{is_quiet_work, is_quiet_access, IsQuiet, AreQuiet, is_noisy, AreReads}
 use Rattle.cr_meaning.specs.World.{Program, World, Answer, part, Halt, then_by}
-use Rattle.cr_meaning.specs.Values.{misfits}
+use Rattle.cr_meaning.specs.Values.{strays}
 use Rattle.cr_meaning.specs.Work.{Did, plainly, giving, events_from, used, at_place, passed, member_of, alone, on_one, on_two, by_count, work_of, first_element}
 use Rattle.cr_meaning.specs.Turns.{Way, Operand, Enter, Resume, Ready, operand, in_turn, choose, answer_truth, and_next, or_next, conditional_next, next_of, next_by}
 use Rattle.cr_meaning.specs.Nodes.{stops, events_of, order_of, all_events, evaluated, resulting, expression}
@@ -74,12 +75,12 @@ reads_unless false one rest h k = k
 
 reads_used : (p : Program) (a : Access) (memory : Memory) (at : Pointer) → is_quiet_access a ≡ true → OwnReads (used p a memory at)
 reads_used p access.Unused memory at h = refl
-reads_used p (access.Scalar kind false) memory at h = reads_if (misfits 1 at) _ _ (reads_then (load_of memory at kind) _ (λ cell. refl))
+reads_used p (access.Scalar kind false) memory at h = reads_if (strays 1 at) _ _ (reads_then (load_of memory at kind) _ (λ cell. refl))
 reads_used p (access.Scalar kind true) memory at h = absurd (false≢true h)
-reads_used p (access.Cells row) memory at h = reads_if (misfits (length (p.kinds row)) at) _ _ (reads_then (cells_of memory at (p.kinds row)) _ (λ cells. reads_from _ _ (length (p.kinds row))))
+reads_used p (access.Cells row) memory at h = reads_if (strays (length (p.kinds row)) at) _ _ (reads_then (cells_of memory at (p.kinds row)) _ (λ cells. reads_from _ _ (length (p.kinds row))))
 reads_used p (access.Array stride whole) memory at h =
     let rest : OwnReads (then_by (reach_of memory at) (λ _. plainly memory (Pointing (first_element at stride)))) = reads_then (reach_of memory at) _ (λ _. refl) in
-    reads_unless (whole == 0) _ _ rest (reads_if (misfits whole at) _ _ rest)
+    reads_unless (whole == 0) _ _ rest (reads_if (strays whole at) _ _ rest)
 
 reads_place : (p : Program) (a : Access) (memory : Memory) (result : Result Pointer Trap) → is_quiet_access a ≡ true → OwnReads (at_place p a memory result)
 reads_place p a memory result h = reads_then result (used p a memory) (λ at. reads_used p a memory at h)
@@ -88,14 +89,14 @@ reads_passed : (p : Program) (a : Access) (memory : Memory) (value : Value) → 
 reads_passed p a memory (Place at) h = reads_used p a memory at h
 reads_passed p a memory other h = refl
 
-reads_member : (p : Program) (a : Access) (memory : Memory) (whole before count : ℕ) (form : Form) (value : Value) → is_quiet_access a ≡ true → OwnReads (member_of p a memory whole before count form value)
+reads_member : (p : Program) (a : Access) (memory : Memory) (whole before : ℕ) (count : Element) (form : Form) (value : Value) → is_quiet_access a ≡ true → OwnReads (member_of p a memory whole before count form value)
 reads_member p a memory whole before count form (Place at) h = reads_place p a memory _ h
 reads_member p a memory whole before count form (Cells cells) h = reads_giving memory _
 reads_member p a memory whole before count form other h = tt
 
 reads_alone : (p : Program) (world : World) (w : Work) (a : Access) → is_quiet_access a ≡ true → OwnReads (alone p world w a)
 reads_alone p world (work.Constant kind value) a h = refl
-reads_alone p world (work.Object node) a h = reads_place p a world.memory _ h
+reads_alone p world (work.Object node of) a h = reads_place p a world.memory _ h
 reads_alone p world other a h = tt
 
 reads_one : (p : Program) (world : World) (w : Work) (a : Access) (value : Value) → is_quiet_work w ≡ true → is_quiet_access a ≡ true → OwnReads (on_one p world w a value)

@@ -9,6 +9,7 @@ use Rattle.cr_library.specs.declared.piece.Piece.TheVariants.{Bytes, Text}
 use Rattle.cr_library.specs.Conversion.{converted}
 use Rattle.cr_library.specs.Reading.{ended}
 use Rattle.cr_library.specs.Argument.{wanted_of, agrees, shown}
+use Rattle.cr_memory.specs.declared.value.Element.{Element}
 use Rattle.cr_memory.specs.declared.value.Pointer.{Pointer}
 use Rattle.cr_memory.specs.declared.value.Pointer.TheVariants.{Null, At}
 use Rattle.cr_memory.specs.declared.value.Scalar.TheVariants as scalar
@@ -19,7 +20,7 @@ use Rattle.cr_memory.specs.declared.value.Trap.TheVariants.{Undefined, Left}
 use Rattle.cr_memory.specs.Memory.{Memory}
 use Rattle.cr_memory.specs.Access.{load_of}
 use Rattle.cr_meaning.specs.World.{Program, World, untyped, unused_value, then_by}
-use Rattle.cr_meaning.specs.Values.{if_fits, as_pointer}
+use Rattle.cr_meaning.specs.Values.{scalar_element, if_fits, as_pointer}
 use Rattle.cr_meaning.specs.Work.{is_nothing, integer}
 use Rattle.cr_meaning.specs.declared.value.Value.{Value}
 use Rattle.cr_meaning.specs.declared.value.Value.TheVariants.{Number, Pointer as Pointing}
@@ -47,13 +48,17 @@ abbrev pub text_by : Memory → ℕ → Pointer → Result (List ℕ) Trap
 text_by memory zero at = Err untyped
 text_by memory (suc most) at = then_by (load_of memory at (scalar.Int Char)) (text_after (text_by memory most (following at)))
 
+-- a char as an element
+abbrev pub char : Element
+char = scalar_element (scalar.Int Char)
+
 -- an array without a zero ends in the read at its end (U9)
 abbrev pub room_from : Pointer → ℕ
 room_from Null = 1
 room_from (At object place low high stride) = suc (high - place)
 
 abbrev pub text_at : Memory → Pointer → Result (List ℕ) Trap
-text_at memory at = if_fits 1 at (text_by memory (room_from at) at)
+text_at memory at = if_fits char at (text_by memory (room_from at) at)
 
 -- ---- formats (7.21.6.1p3): `FormatsAreRead` says what is read
 
@@ -129,7 +134,7 @@ formatted p world arguments (Some pieces) =
 -- of any argument comes before that
 abbrev pub printf_of : Program → World → List Bool → List Value → Result Called Trap
 printf_of p world texts (format ∷ values) =
-    then_by (as_pointer format) (λ at. if_fits 1 at (if list_any is_nothing values then Err unused_value
+    then_by (as_pointer format) (λ at. if_fits char at (if list_any is_nothing values then Err unused_value
     else then_by (text_at world.memory at) (λ bytes. formatted p world (zip texts values) (pieces_of bytes))))
 printf_of p world texts [] = Err untyped
 

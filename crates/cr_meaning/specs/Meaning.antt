@@ -10,7 +10,7 @@ use Rattle.cr_memory.specs.declared.value.Trap.TheVariants.{Undefined, Left}
 use Rattle.cr_memory.specs.Memory.{Object}
 use Rattle.cr_meaning.specs.Language.{Reply, went, halts, gave, ended, Prog, give, act, call, Runs}
 use Rattle.cr_meaning.specs.World.{Program, World, Answer, next, broke, continued, jumped, returned, Halt, stopped, exited, untyped, enter_object, enter_all, automatic, static, marked, closed, unset_again}
-use Rattle.cr_meaning.specs.Values.{asked, converted}
+use Rattle.cr_meaning.specs.Values.{asked, converted, scalar_element}
 use Rattle.cr_meaning.specs.Work.{integer}
 use Rattle.cr_meaning.specs.Library.{status_of}
 use Rattle.cr_meaning.specs.Turns.{Way, Operand, Enter, Resume, Ready, next_of}
@@ -75,7 +75,7 @@ strings_of strings = record { cells = cell.Pointer Null ∷ []; shape = (strings
 abbrev pub main_entered : Program → Scalar → List Parameter → World → Result World (Trap × ℕ)
 main_entered p strings (count ∷ vector ∷ []) world =
     elim (enter_object world vector.node (strings_of strings)) as (λ _. Result World (Trap × ℕ)) [
-      | Ok entered ↦ enter_parameters p entered (count ∷ vector ∷ []) (Number IntegerKind (pos 0) ∷ Pointing (At (length world.memory.objects) 0 0 1 1) ∷ [])
+      | Ok entered ↦ enter_parameters p entered (count ∷ vector ∷ []) (Number IntegerKind (pos 0) ∷ Pointing (At (length world.memory.objects) 0 0 1 (scalar_element strings)) ∷ [])
       | Err case ↦ Err case
     ]
 main_entered p strings parameters world = Ok world

@@ -11,7 +11,7 @@ use Rattle.cr_meaning.specs.declared.op.Work.TheVariants as work
 
 abbrev pub is_quiet_work : Work → Bool
 is_quiet_work (work.Constant kind value) = true
-is_quiet_work (work.Object node) = true
+is_quiet_work (work.Object node of) = true
 is_quiet_work work.Pass = true
 is_quiet_work work.Comma = true
 is_quiet_work (work.Conditional form) = true

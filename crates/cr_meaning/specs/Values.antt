@@ -1,5 +1,5 @@
 -- Values: their conversions and comparisons, and what integers and pointers are in operators (C11 6.3, 6.5).
-use Rattle.std.specs.Prelude.{ℕ, ◌==◌, ℤ, pos, neg_ℤ, int_le, int_lt, unsigned_abs, Bool, true, false, not, ◌&&◌, Option, Some, None, Result, Ok, Err, List, [], ◌∷◌, length, if◌then◌else◌}
+use Rattle.std.specs.Prelude.{ℕ, ◌+◌, ◌*◌, ◌==◌, ℤ, pos, neg_ℤ, int_le, int_lt, unsigned_abs, Bool, true, false, not, ◌&&◌, Option, Some, None, Result, Ok, Err, List, [], ◌∷◌, length, if◌then◌else◌}
 use Rattle.cr_ints.specs.declared.kind.IntKind.{IntKind}
 use Rattle.cr_ints.specs.declared.kind.IntKind.TheVariants.{Int as IntegerKind, Long as LongKind}
 use Rattle.cr_ints.specs.declared.end.IntEnd.{IntEnd}
@@ -7,6 +7,7 @@ use Rattle.cr_ints.specs.declared.end.IntEnd.TheVariants as end
 use Rattle.cr_ints.specs.Conversions.{convert_of}
 use Rattle.cr_ints.specs.Operations.{add_of, sub_of, mul_of, div_of, rem_of, shl_of, shr_of, neg_of}
 use Rattle.cr_ints.specs.Bits.{bitand_of, bitor_of, bitxor_of, not_of}
+use Rattle.cr_memory.specs.declared.value.Element.{Element}
 use Rattle.cr_memory.specs.declared.value.Pointer.{Pointer}
 use Rattle.cr_memory.specs.declared.value.Pointer.TheVariants.{Null, At}
 use Rattle.cr_memory.specs.declared.value.Scalar.{Scalar}
@@ -15,6 +16,7 @@ use Rattle.cr_memory.specs.declared.value.Cell.{Cell}
 use Rattle.cr_memory.specs.declared.value.Cell.TheVariants as cell
 use Rattle.cr_memory.specs.declared.value.Trap.{Trap}
 use Rattle.cr_memory.specs.declared.value.Trap.TheVariants.{Undefined, Left}
+use Rattle.cr_memory.specs.Kind.{place_of}
 use Rattle.cr_memory.specs.Memory.{Memory, has_ended}
 use Rattle.cr_memory.specs.Pointers.{shift_of, differ_of, less_of, same_of}
 use Rattle.cr_meaning.specs.World.{Program, untyped, unused_value, then_by}
@@ -130,22 +132,39 @@ compares NotEqual left right = not (int_le left right && int_le right left)
 
 -- ---- pointers
 
--- a pointer that isn't null goes by elements of another number of cells (N5)
-abbrev pub misfits : ℕ → Pointer → Bool
-misfits cells Null = false
-misfits cells (At object cell low high stride) = not (stride == cells)
+-- scalars as elements: the integer types are named by their places in their list, and pointer types behind them, with room for
+-- other types between
+abbrev pub scalar_name : Scalar → ℕ
+scalar_name (scalar.Int kind) = place_of kind
+scalar_name (scalar.Pointer to) = 12 + 3 * to
 
-abbrev pub if_fits : {A : Type 0} → ℕ → Pointer → Result A Trap → Result A Trap
-if_fits cells pointer rest = if misfits cells pointer then Err (Left 5) else rest
+abbrev pub scalar_element : Scalar → Element
+scalar_element kind = record { cells = 1; of = scalar_name kind }
+
+-- a pointer that isn't null points to elements of another type (N5): two types of one name and of as many cells are one
+abbrev pub misfits : Element → Pointer → Bool
+misfits own Null = false
+misfits own (At object cell low high stride) = not (stride.cells == own.cells && stride.of == own.of)
+
+abbrev pub if_fits : {A : Type 0} → Element → Pointer → Result A Trap → Result A Trap
+if_fits own pointer rest = if misfits own pointer then Err (Left 5) else rest
+
+-- a place isn't one of so many cells
+abbrev pub strays : ℕ → Pointer → Bool
+strays cells Null = false
+strays cells (At object cell low high stride) = not (stride.cells == cells)
+
+abbrev pub if_holds : {A : Type 0} → ℕ → Pointer → Result A Trap → Result A Trap
+if_holds cells place rest = if strays cells place then Err (Left 5) else rest
 
 -- a pointer and an integer: N5, then U15, then U10 and U6 (6.5.6p8)
-abbrev pub moved : Memory → Bool → ℕ → Pointer → Value → Result Pointer Trap
+abbrev pub moved : Memory → Bool → Element → Pointer → Value → Result Pointer Trap
 moved memory back cells pointer (Number kind value) = if_fits cells pointer (shift_of memory pointer (if back then neg_ℤ value else value))
 moved memory back cells pointer Nothing = if_fits cells pointer (Err unused_value)
 moved memory back cells pointer other = Err untyped
 
 -- the pointer may be the right operand (6.5.6p2, 6.5.2.1p2)
-abbrev pub moved_either : Memory → Bool → ℕ → Value → Value → Result Pointer Trap
+abbrev pub moved_either : Memory → Bool → Element → Value → Value → Result Pointer Trap
 moved_either memory back cells (Pointing pointer) value = moved memory back cells pointer value
 moved_either memory back cells value (Pointing pointer) = moved memory back cells pointer value
 moved_either memory back cells Nothing value = Err unused_value
@@ -187,7 +206,7 @@ related memory Equal left right = then_by (same_of memory left right) holding
 related memory NotEqual left right = then_by (same_of memory left right) (λ b. holding (not b))
 
 -- the difference of two pointers: N5 of either, then U15, then U10 and U7 (6.5.6p9)
-abbrev pub misfit_value : ℕ → Value → Bool
+abbrev pub misfit_value : Element → Value → Bool
 misfit_value cells (Pointing pointer) = misfits cells pointer
 misfit_value cells other = false
 
@@ -195,5 +214,5 @@ abbrev pub distance : Memory → Pointer → Pointer → Result Value Trap
 distance memory left right = then_by (differ_of memory left right) (λ by. Ok (Number LongKind by))
 
 -- N5 of a pointer operand comes before the other cases
-abbrev pub if_both_fit : {A : Type 0} → ℕ → Value → Value → Result A Trap → Result A Trap
+abbrev pub if_both_fit : {A : Type 0} → Element → Value → Value → Result A Trap → Result A Trap
 if_both_fit cells left right rest = if misfit_value cells left then Err (Left 5) else (if misfit_value cells right then Err (Left 5) else rest)

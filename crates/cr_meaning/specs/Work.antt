@@ -3,6 +3,7 @@
 use Rattle.std.specs.Prelude.{ℕ, zero, suc, ℤ, ◌+◌, ◌==◌, pos, Bool, true, false, not, ◌&&◌, ◌||◌, Option, Some, None, Result, Ok, Err, List, [], ◌∷◌, ◌++◌, length, take, drop, if◌then◌else◌}
 use Rattle.cr_ints.specs.declared.kind.IntKind.TheVariants.{Int as IntegerKind}
 use Rattle.cr_ints.specs.Conversions.{convert_of}
+use Rattle.cr_memory.specs.declared.value.Element.{Element}
 use Rattle.cr_memory.specs.declared.value.Pointer.{Pointer}
 use Rattle.cr_memory.specs.declared.value.Pointer.TheVariants.{Null, At}
 use Rattle.cr_memory.specs.declared.value.Scalar.TheVariants as scalar
@@ -14,7 +15,7 @@ use Rattle.cr_memory.specs.Memory.{Memory}
 use Rattle.cr_memory.specs.Access.{number_of, cell_of, reach_of, load_of, save_of, put_of, cells_of}
 use Rattle.cr_meaning.specs.Events.{Event, Deed, Reads, Touches, Writes, own}
 use Rattle.cr_meaning.specs.World.{Program, World, untyped, unused_value, then_by, object_for, whole_place}
-use Rattle.cr_meaning.specs.Values.{cells_in, value_in, asked, if_lives, converted, signed_by, compares, if_fits, moved_either, changed, with_pointers, holding, related, if_both_fit, distance}
+use Rattle.cr_meaning.specs.Values.{cells_in, value_in, asked, if_lives, converted, signed_by, compares, if_fits, if_holds, moved_either, changed, with_pointers, holding, related, if_both_fit, distance}
 use Rattle.cr_meaning.specs.declared.op.Access.{Access}
 use Rattle.cr_meaning.specs.declared.op.Access.TheVariants as access
 use Rattle.cr_meaning.specs.declared.op.Form.{Form}
@@ -53,18 +54,18 @@ abbrev pub deed_of : Bool → Deed
 deed_of volatile = if volatile then Touches else Reads
 
 -- the array at a place as a pointer to its first element, which is one of as many elements as the array has cells for
-abbrev pub first_element : Pointer → ℕ → Pointer
+abbrev pub first_element : Pointer → Element → Pointer
 first_element Null stride = Null
-first_element (At object cell low high whole) stride = At object cell cell (cell + whole) stride
+first_element (At object cell low high whole) stride = At object cell cell (cell + whole.cells) stride
 
 abbrev pub fits_whole : {A : Type 0} → ℕ → Pointer → Result A Trap → Result A Trap
-fits_whole whole at rest = if whole == 0 then rest else if_fits whole at rest
+fits_whole whole at rest = if whole == 0 then rest else if_holds whole at rest
 
 abbrev pub used : Program → Access → Memory → Pointer → Result Did Trap
 used p access.Unused memory at = plainly memory (Place at)
-used p (access.Scalar kind volatile) memory at = if_fits 1 at (then_by (load_of memory at kind)
+used p (access.Scalar kind volatile) memory at = if_holds 1 at (then_by (load_of memory at kind)
     (λ cell. Ok (record { value = value_in kind cell; memory = memory; events = events_at (deed_of volatile) at 1 })))
-used p (access.Cells row) memory at = if_fits (length (p.kinds row)) at (then_by (cells_of memory at (p.kinds row))
+used p (access.Cells row) memory at = if_holds (length (p.kinds row)) at (then_by (cells_of memory at (p.kinds row))
     (λ cells. Ok (record { value = Cells cells; memory = memory; events = events_at Reads at (length (p.kinds row)) })))
 used p (access.Array stride whole) memory at = fits_whole whole at (then_by (reach_of memory at) (λ _. plainly memory (Pointing (first_element at stride))))
 
@@ -75,18 +76,18 @@ at_place p access memory result = then_by result (used p access memory)
 -- ---- objects and members
 
 -- the place of the object that was entered for a node (6.5.1p2, p4)
-abbrev pub place_of : Memory → Option ℕ → Result Pointer Trap
-place_of memory None = Err untyped
-place_of memory (Some object) = Ok (whole_place memory object)
+abbrev pub place_of : Memory → Option ℕ → ℕ → Result Pointer Trap
+place_of memory None of = Err untyped
+place_of memory (Some object) of = Ok (whole_place memory object of)
 
 -- some cells of a structure, as an array of one (6.5.2.3p3, p4)
-abbrev pub inner : ℕ → ℕ → Pointer → Pointer
+abbrev pub inner : ℕ → Element → Pointer → Pointer
 inner before count Null = Null
-inner before count (At object cell low high stride) = At object (cell + before) (cell + before) (cell + before + count) count
+inner before count (At object cell low high stride) = At object (cell + before) (cell + before) (cell + before + count.cells) count
 
 -- the structure's first cell is accessed
-abbrev pub inner_of : Memory → ℕ → ℕ → ℕ → Pointer → Result Pointer Trap
-inner_of memory whole before count at = if_fits whole at (then_by (reach_of memory at) (λ _. Ok (inner before count at)))
+abbrev pub inner_of : Memory → ℕ → ℕ → Element → Pointer → Result Pointer Trap
+inner_of memory whole before count at = if_holds whole at (then_by (reach_of memory at) (λ _. Ok (inner before count at)))
 
 -- a scalar taken out of a structure that is no lvalue: as if it were loaded (U11, U10)
 abbrev pub taken_scalar : Memory → Form → List Cell → Result Value Trap
@@ -99,14 +100,14 @@ abbrev pub taken : Memory → Form → List Cell → Result Value Trap
 taken memory (form.Cells row) cells = Ok (Cells cells)
 taken memory form cells = taken_scalar memory form cells
 
-abbrev pub member_of : Program → Access → Memory → ℕ → ℕ → ℕ → Form → Value → Result Did Trap
+abbrev pub member_of : Program → Access → Memory → ℕ → ℕ → Element → Form → Value → Result Did Trap
 member_of p access memory whole before count form (Place at) = at_place p access memory (inner_of memory whole before count at)
-member_of p access memory whole before count form (Cells cells) = giving memory (taken memory form (take count (drop before cells)))
+member_of p access memory whole before count form (Cells cells) = giving memory (taken memory form (take count.cells (drop before cells)))
 member_of p access memory whole before count form Nothing = Err unused_value
 member_of p access memory whole before count form other = Err untyped
 
 -- a pointer that is followed: N5, then U15
-abbrev pub followed : {A : Type 0} → ℕ → Value → (Pointer → Result A Trap) → Result A Trap
+abbrev pub followed : {A : Type 0} → Element → Value → (Pointer → Result A Trap) → Result A Trap
 followed cells (Pointing at) f = if_fits cells at (f at)
 followed cells Nothing f = Err unused_value
 followed cells other f = Err untyped
@@ -124,7 +125,7 @@ did_assign p form at value memory = Ok (record { value = value; memory = memory;
 
 -- the value is converted to the type of the left operand, and stored there (6.5.16.1p2)
 abbrev pub assigned : Program → Memory → Form → Value → Value → Result Did Trap
-assigned p memory form (Place at) value = if_fits (cells_in p form) at (then_by (converted memory form value)
+assigned p memory form (Place at) value = if_holds (cells_in p form) at (then_by (converted memory form value)
     (λ new. then_by (stored p memory form at new) (did_assign p form at new)))
 assigned p memory form left value = Err untyped
 
@@ -139,7 +140,7 @@ loaded memory form at = Err untyped
 
 -- `E1 op= E2` is `E1 = E1 op E2` with E1 evaluated once (6.5.16.2p3): its value is read, changed, converted and stored
 abbrev pub updated : Program → Memory → Change → Form → Bool → Bool → Value → Value → Result Did Trap
-updated p memory change form volatile post (Place at) right = if_fits 1 at (then_by (loaded memory form at)
+updated p memory change form volatile post (Place at) right = if_holds 1 at (then_by (loaded memory form at)
     (λ old. then_by (changed memory change old right)
     (λ result. then_by (converted memory form result)
     (λ new. then_by (stored p memory form at new) (did_update form volatile at post old new)))))
@@ -193,7 +194,7 @@ address other = Err untyped
 
 abbrev pub alone : Program → World → Work → Access → Result Did Trap
 alone p world (work.Constant kind value) access = plainly world.memory (Number kind value)
-alone p world (work.Object node) access = at_place p access world.memory (place_of world.memory (object_for world.bindings node))
+alone p world (work.Object node of) access = at_place p access world.memory (place_of world.memory (object_for world.bindings node) of)
 alone p world other access = Err untyped
 
 abbrev pub passed : Program → Access → Memory → Value → Result Did Trap
@@ -208,7 +209,7 @@ on_one p world (work.Cast form) access value = giving world.memory (cast world.m
 on_one p world work.AddressOf access value = giving world.memory (address value)
 on_one p world (work.Dereference cells) access value = at_place p access world.memory (followed cells value (λ at. if_lives world.memory at (Ok at)))
 on_one p world (work.Member whole before count form) access value = member_of p access world.memory whole before count form value
-on_one p world (work.PointerMember whole before count) access value = at_place p access world.memory (followed whole value (inner_of world.memory whole before count))
+on_one p world (work.PointerMember whole before count) access value = at_place p access world.memory (followed whole value (inner_of world.memory whole.cells before count))
 on_one p world (work.Update change form volatile post) access value = updated p world.memory change form volatile post value (Number IntegerKind (pos 1))
 on_one p world other access value = Err untyped
 

@@ -2,6 +2,7 @@
 use Rattle.std.specs.Prelude.{ℕ, ◌==◌, true, false, Option, Some, None, Result, Ok, Err, List, [], ◌∷◌, length, replicate, if◌then◌else◌}
 use Rattle.cr_memory.specs.declared.value.Scalar.{Scalar}
 use Rattle.cr_memory.specs.declared.value.Guard.{Guard}
+use Rattle.cr_memory.specs.declared.value.Element.{Element}
 use Rattle.cr_memory.specs.declared.value.Pointer.{Pointer}
 use Rattle.cr_memory.specs.declared.value.Pointer.TheVariants.{At}
 use Rattle.cr_memory.specs.declared.value.Cell.{Cell}
@@ -81,8 +82,10 @@ object_for (bound declared object ∷ rest) node = if declared == node then Some
 object_for (mark ∷ rest) node = object_for rest node
 
 -- the place of a whole object, an array of one
-abbrev pub whole_place : Memory → ℕ → Pointer
-whole_place memory object = At object 0 0 (count_of (live_object memory object)) (count_of (live_object memory object))
+abbrev pub whole_place : Memory → ℕ → ℕ → Pointer
+whole_place memory object of =
+    let whole : Element = record { cells = count_of (live_object memory object); of = of } in
+    At object 0 0 (count_of (live_object memory object)) whole
 
 abbrev pub with_binding : World → ℕ → Object → World
 with_binding world node object =

@@ -1,5 +1,5 @@
 use cr_ints::IntKind;
-use cr_memory::Scalar;
+use cr_memory::{Element, Scalar};
 use cr_rows::Row;
 
 /// What a type is to the run.
@@ -22,8 +22,8 @@ pub enum Access {
     Scalar(Scalar, bool),
     /// A structure is read, of a row of the table of types.
     Cells(u32),
-    /// An array becomes a pointer to its first element: the cells of an element, and of the array, 0 where that is unknown.
-    Array(u32, u32),
+    /// An array becomes a pointer to its first element: the element, and the array's cells, 0 where that is unknown.
+    Array(Element, u32),
 }
 
 /// An arithmetic operator of two operands (6.5.5 to 6.5.7, 6.5.10 to 6.5.12).
@@ -65,8 +65,8 @@ pub enum Relation {
 pub enum Change {
     /// Integers, in this kind: the common one, or of a shift the promoted left one.
     Arithmetic(Operator, IntKind),
-    /// A pointer to elements of so many cells and an integer: their sum, or where `true` their difference.
-    Move(bool, u32),
+    /// A pointer to such elements and an integer: their sum, or where `true` their difference.
+    Move(bool, Element),
 }
 
 /// A parameter, or an initialised part of an object.
@@ -120,8 +120,8 @@ pub enum Work {
     // Expressions (6.5)
     /// A constant, an enumerator or `sizeof`.
     Constant(IntKind, i128),
-    /// The object that a node declares, or a string literal's by its own node.
-    Object(u32),
+    /// The object that a node declares, or a string literal's by its own node; and what names its type.
+    Object(u32, u32),
     /// Brackets and `&*`: the operand, as it is.
     Pass,
     Comma,
@@ -135,20 +135,20 @@ pub enum Work {
     Compare(Relation, IntKind),
     /// A comparison of pointers.
     ComparePointers(Relation),
-    /// The difference of two pointers to elements of so many cells.
-    Distance(u32),
+    /// The difference of two pointers to such elements.
+    Distance(Element),
     Unary(Sign, IntKind),
     Not,
     Cast(Form),
     AddressOf,
-    /// `*` of a pointer to so many cells.
-    Dereference(u32),
-    /// `[]` of a pointer to elements of so many cells.
-    Subscript(u32),
-    /// `.`: the cells of the structure, the cells before the member, and the member's cells and type.
-    Member(u32, u32, u32, Form),
-    /// `->`: the same without the type.
-    PointerMember(u32, u32, u32),
+    /// `*` of a pointer to such an element.
+    Dereference(Element),
+    /// `[]` of a pointer to such elements.
+    Subscript(Element),
+    /// `.`: the cells of the structure, the cells before the member, the member as an element, and its type.
+    Member(u32, u32, Element, Form),
+    /// `->`: the structure as an element, the cells before the member, and the member as one.
+    PointerMember(Element, u32, Element),
     /// `=` into this type.
     Assign(Form),
     /// A compound assignment, or `++` or `--`, where 1 stands in the place of the right operand: the operator, the type, whether

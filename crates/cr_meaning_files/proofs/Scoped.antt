@@ -16,7 +16,7 @@ use Rattle.cr_meaning.specs.declared.op.Callee.{Callee}
 use Rattle.cr_meaning.specs.declared.op.Callee.TheVariants.{Function}
 use Rattle.cr_meaning.specs.declared.op.Work.{Work}
 use Rattle.cr_meaning.specs.declared.op.Work.TheVariants as work
-use Rattle.cr_meaning_operations.specs.Shapes.{is_pointer, stride_of}
+use Rattle.cr_meaning_operations.specs.Shapes.{is_pointer, pointed_element}
 use Rattle.cr_meaning_operations.specs.Operations.{kind_if, kind_at, parts_at, part_at, first_at, node_op, constant_by, identifier_by, address_by, change_of, common_kind, left_type, right_type, callee_of, labelled, is_automatic, declarators_of, part_from, clause_end, clause_objects, last_part, op_by}
 use Rattle.cr_meaning_soundness.specs.Sorts.{IsAmong}
 use Rattle.cr_meaning_soundness.specs.Scopes.{IsPart, nodes_of, entered_by, is_past, is_open}
@@ -287,7 +287,7 @@ module _ (file : List ℕ) (t : Typed) (it : IsUnitOfFile file t) where
     by_kind i n at kind.Greater is r reached = either i (is_pointer (left_type t i) || is_pointer (right_type t i)) (work.ComparePointers relation.Greater) (work.Compare relation.Greater (common_kind (left_type t i) (right_type t i))) refl refl (own i kind.Greater is refl) r
     by_kind i n at kind.LessEqual is r reached = either i (is_pointer (left_type t i) || is_pointer (right_type t i)) (work.ComparePointers relation.LessEqual) (work.Compare relation.LessEqual (common_kind (left_type t i) (right_type t i))) refl refl (own i kind.LessEqual is refl) r
     by_kind i n at kind.GreaterEqual is r reached = either i (is_pointer (left_type t i) || is_pointer (right_type t i)) (work.ComparePointers relation.GreaterEqual) (work.Compare relation.GreaterEqual (common_kind (left_type t i) (right_type t i))) refl refl (own i kind.GreaterEqual is refl) r
-    by_kind i n at kind.Subtract is r reached = either i (is_pointer (left_type t i) && is_pointer (right_type t i)) (work.Distance (stride_of t (left_type t i))) (work.Binary (change_of t operator.Subtract true (common_kind (left_type t i) (right_type t i)) (left_type t i) (right_type t i))) refl refl (own i kind.Subtract is refl) r
+    by_kind i n at kind.Subtract is r reached = either i (is_pointer (left_type t i) && is_pointer (right_type t i)) (work.Distance (pointed_element t (left_type t i))) (work.Binary (change_of t operator.Subtract true (common_kind (left_type t i) (right_type t i)) (left_type t i) (right_type t i))) refl refl (own i kind.Subtract is refl) r
     by_kind i n at kind.SizeofExpression is r reached = constants i (slice_index_or t.constants i None)
     by_kind i n at kind.SizeofType is r reached = constants i (slice_index_or t.constants i None)
     by_kind i n at kind.Integer is r reached = constants i (slice_index_or t.constants i None)

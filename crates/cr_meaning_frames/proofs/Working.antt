@@ -4,6 +4,7 @@ use Rattle.std.specs.Prelude.{ℕ, zero, suc, ◌==◌, neg_ℤ, Bool, true, fal
 use Rattle.std.specs.List.{list_all}
 use Rattle.cr_footprint.specs.Cell.{Cell as Place}
 use Rattle.cr_ints.specs.Conversions.{convert_of}
+use Rattle.cr_memory.specs.declared.value.Element.{Element}
 use Rattle.cr_memory.specs.declared.value.Pointer.{Pointer}
 use Rattle.cr_memory.specs.declared.value.Pointer.TheVariants.{At}
 use Rattle.cr_memory.specs.declared.value.Cell.{Cell}
@@ -14,7 +15,7 @@ use Rattle.cr_memory.specs.Access.{number_of, cell_of, reach_of, load_of, cells_
 use Rattle.cr_meaning.specs.Events.{Event, Reads}
 use Rattle.cr_meaning.specs.Quiet.{is_quiet_work}
 use Rattle.cr_meaning.specs.World.{Program, World, Binding, then_by, object_for}
-use Rattle.cr_meaning.specs.Values.{misfits, if_fits, if_lives, asked, converted, signed_by, compares, moved, moved_either, changed, as_pointer, with_pointers, related, distance, misfit_value, if_both_fit, value_in, holding, pointing}
+use Rattle.cr_meaning.specs.Values.{misfits, if_fits, strays, if_holds, if_lives, asked, converted, signed_by, compares, moved, moved_either, changed, as_pointer, with_pointers, related, distance, misfit_value, if_both_fit, value_in, holding, pointing}
 use Rattle.cr_meaning.specs.Work.{Did, plainly, giving, events_from, events_at, deed_of, used, at_place, place_of, inner_of, taken_scalar, taken, member_of, followed, is_nothing, logical, is_void, conditional, integer, cast, comparison, address, alone, passed, on_one, on_two, by_count, work_of, first_element}
 use Rattle.cr_meaning.specs.declared.op.Access.{Access}
 use Rattle.cr_meaning.specs.declared.op.Access.TheVariants as access
@@ -68,14 +69,17 @@ module _ (cells : Place → Bool) (one other : Memory) (h : Agree cells one othe
   same_converted (form.Number kind) (Pointing at) = same_alive cells one other h at _ _ _ refl
   same_converted f value = same_self (converted one f value)
 
-  same_fits : {A : Type 0} (count : ℕ) (at : Pointer) (r r' : Result A Trap) → Same r r' → Same (if_fits count at r) (if_fits count at r')
+  same_fits : {A : Type 0} (count : Element) (at : Pointer) (r r' : Result A Trap) → Same r r' → Same (if_fits count at r) (if_fits count at r')
   same_fits count at r r' k = same_unless (misfits count at) (misfits count at) _ r r' (λ e. e) (λ e. k)
 
-  same_moved : (back : Bool) (count : ℕ) (at : Pointer) (value : Value) → Same (moved one back count at value) (moved other back count at value)
+  same_holds : {A : Type 0} (count : ℕ) (at : Pointer) (r r' : Result A Trap) → Same r r' → Same (if_holds count at r) (if_holds count at r')
+  same_holds count at r r' k = same_unless (strays count at) (strays count at) _ r r' (λ e. e) (λ e. k)
+
+  same_moved : (back : Bool) (count : Element) (at : Pointer) (value : Value) → Same (moved one back count at value) (moved other back count at value)
   same_moved back count at (Number kind value) = same_fits count at _ _ (same_shift cells one other h at (if back then neg_ℤ value else value))
   same_moved back count at value = same_self (moved one back count at value)
 
-  same_moved_either : (back : Bool) (count : ℕ) (left right : Value) → Same (moved_either one back count left right) (moved_either other back count left right)
+  same_moved_either : (back : Bool) (count : Element) (left right : Value) → Same (moved_either one back count left right) (moved_either other back count left right)
   same_moved_either back count (Pointing at) value = same_moved back count at value
   same_moved_either back count value (Pointing at) = same_moved back count at value
   same_moved_either back count left right = same_self (moved_either one back count left right)
@@ -137,15 +141,15 @@ module _ (cells : Place → Bool) (one other : Memory) (h : Agree cells one othe
   moves_used : (p : Program) (a : Access) (at : Pointer) → Moves (used p a one at) (used p a other at)
   moves_used p access.Unused at = λ reads. (refl, refl)
   moves_used p (access.Scalar kind volatile) at =
-      moves_unless (misfits 1 at) _ _ _ (moves_read (load_of one at kind) (load_of other at kind) (events_at (deed_of volatile) at 1) (value_in kind)
+      moves_unless (strays 1 at) _ _ _ (moves_read (load_of one at kind) (load_of other at kind) (events_at (deed_of volatile) at 1) (value_in kind)
       (λ reads. same_load cells one other h at kind (touches_none volatile at reads)))
   moves_used p (access.Cells row) at =
-      moves_unless (misfits (length (p.kinds row)) at) _ _ _ (moves_read (cells_of one at (p.kinds row)) (cells_of other at (p.kinds row)) (events_at Reads at (length (p.kinds row))) (λ held. Cells held)
+      moves_unless (strays (length (p.kinds row)) at) _ _ _ (moves_read (cells_of one at (p.kinds row)) (cells_of other at (p.kinds row)) (events_at Reads at (length (p.kinds row))) (λ held. Cells held)
       (λ reads. same_cells cells one other h at (p.kinds row) (covered cells (number_of at) (cell_of at) (length (p.kinds row)) reads)))
   moves_used p (access.Array stride whole) at =
       let rest : Moves (then_by (reach_of one at) (λ _. plainly one (Pointing (first_element at stride)))) (then_by (reach_of other at) (λ _. plainly other (Pointing (first_element at stride)))) =
       moves_then (reach_of one at) (reach_of other at) _ _ (same_reach cells one other h at) (λ _. λ reads. (refl, refl)) in
-      moves_if (whole == 0) _ _ _ _ rest (moves_unless (misfits whole at) _ _ _ rest)
+      moves_if (whole == 0) _ _ _ _ rest (moves_unless (strays whole at) _ _ _ rest)
 
   moves_place : (p : Program) (a : Access) (r r' : Result Pointer Trap) → Same r r' → Moves (at_place p a one r) (at_place p a other r')
   moves_place p a r r' k = moves_then r r' (used p a one) (used p a other) k (moves_used p a)
@@ -153,10 +157,10 @@ module _ (cells : Place → Bool) (one other : Memory) (h : Agree cells one othe
   same_lives : (at : Pointer) → Same (if_lives one at (Ok at)) (if_lives other at (Ok at))
   same_lives at = same_alive cells one other h at _ _ _ refl
 
-  same_inner : (whole before count : ℕ) (at : Pointer) → Same (inner_of one whole before count at) (inner_of other whole before count at)
-  same_inner whole before count at = same_fits whole at _ _ (same_then _ _ _ _ (same_reach cells one other h at) (λ _. refl))
+  same_inner : (whole before : ℕ) (count : Element) (at : Pointer) → Same (inner_of one whole before count at) (inner_of other whole before count at)
+  same_inner whole before count at = same_holds whole at _ _ (same_then _ _ _ _ (same_reach cells one other h at) (λ _. refl))
 
-  same_followed : {A : Type 0} (count : ℕ) (value : Value) (f g : Pointer → Result A Trap) → ((at : Pointer) → Same (f at) (g at)) → Same (followed count value f) (followed count value g)
+  same_followed : {A : Type 0} (count : Element) (value : Value) (f g : Pointer → Result A Trap) → ((at : Pointer) → Same (f at) (g at)) → Same (followed count value f) (followed count value g)
   same_followed count (Pointing at) f g k = same_fits count at _ _ (k at)
   same_followed count Nothing f g k = tt
   same_followed count value f g k = tt
@@ -186,9 +190,9 @@ module _ (cells : Place → Bool) (one other : Memory) (h : Agree cells one othe
       same_unless (is_nothing chosen && not (is_void f)) _ _ _ _ (λ e. e) (λ e. same_then (asked one first) (asked other first) (λ _. converted one f chosen) (λ _. converted other f chosen) (same_asked first) (λ _. same_converted f chosen))
   same_conditional f values = same_self (conditional one f values)
 
-  moves_member : (p : Program) (a : Access) (whole before count : ℕ) (f : Form) (value : Value) → Moves (member_of p a one whole before count f value) (member_of p a other whole before count f value)
+  moves_member : (p : Program) (a : Access) (whole before : ℕ) (count : Element) (f : Form) (value : Value) → Moves (member_of p a one whole before count f value) (member_of p a other whole before count f value)
   moves_member p a whole before count f (PlaceValue at) = moves_place p a _ _ (same_inner whole before count at)
-  moves_member p a whole before count f (Cells held) = moves_giving _ _ (same_taken f (take count (drop before held)))
+  moves_member p a whole before count f (Cells held) = moves_giving _ _ (same_taken f (take count.cells (drop before held)))
   moves_member p a whole before count f Nothing = tt
   moves_member p a whole before count f value = tt
 
@@ -200,15 +204,17 @@ module _ (cells : Place → Bool) (one other : Memory) (h : Agree cells one othe
 
 -- the place of a whole object tells how many cells it has
 module _ (cells : Place → Bool) (p : Program) (s t : World) (h : Agree cells s.memory t.memory) (bound : t.bindings ≡ s.bindings) (knows : KnowsObjects s.bindings s.memory t.memory) where
-  same_place : (o : Option ℕ) (node : ℕ) → object_for s.bindings node ≡ o → Same (place_of s.memory o) (place_of t.memory o)
-  same_place None node e = tt
-  same_place (Some object) node e = ap (λ n. Ok (At object 0 0 n n)) (knows node object e)
+  same_place : (o : Option ℕ) (node of : ℕ) → object_for s.bindings node ≡ o → Same (place_of s.memory o of) (place_of t.memory o of)
+  same_place None node of e = tt
+  same_place (Some object) node of e =
+      let whole : ℕ → Element = λ n. record { cells = n; of = of } in
+      ap (λ n. Ok (At object 0 0 n (whole n))) (knows node object e)
 
   moves_alone : (w : Work) (a : Access) → Moves cells s.memory t.memory h (alone p s w a) (alone p t w a)
   moves_alone (work.Constant kind value) a = λ reads. (refl, refl)
-  moves_alone (work.Object node) a =
-      let F : List Binding → Type 0 = λ b. Same (place_of s.memory (object_for s.bindings node)) (place_of t.memory (object_for b node)) in
-      moves_place cells s.memory t.memory h p a _ _ (subst F (sym bound) (same_place (object_for s.bindings node) node refl))
+  moves_alone (work.Object node of) a =
+      let F : List Binding → Type 0 = λ b. Same (place_of s.memory (object_for s.bindings node) of) (place_of t.memory (object_for b node) of) in
+      moves_place cells s.memory t.memory h p a _ _ (subst F (sym bound) (same_place (object_for s.bindings node) node of refl))
   moves_alone w a = tt
 
   moves_one : (w : Work) (a : Access) (value : Value) → is_quiet_work w ≡ true → Moves cells s.memory t.memory h (on_one p s w a value) (on_one p t w a value)
@@ -221,7 +227,7 @@ module _ (cells : Place → Bool) (p : Program) (s t : World) (h : Agree cells s
       moves_place cells s.memory t.memory h p a _ _ (same_followed cells s.memory t.memory h count value _ _ (same_lives cells s.memory t.memory h))
   moves_one (work.Member whole before count f) a value k = moves_member cells s.memory t.memory h p a whole before count f value
   moves_one (work.PointerMember whole before count) a value k =
-      moves_place cells s.memory t.memory h p a _ _ (same_followed cells s.memory t.memory h whole value _ _ (same_inner cells s.memory t.memory h whole before count))
+      moves_place cells s.memory t.memory h p a _ _ (same_followed cells s.memory t.memory h whole value _ _ (same_inner cells s.memory t.memory h whole.cells before count))
   moves_one (work.Update change f volatile post) a value k = absurd cc
   moves_one w a value k = tt
 

@@ -5,6 +5,7 @@ use Rattle.std.specs.Str.{bytes_eq}
 use Rattle.cr_ints.specs.declared.kind.IntKind.{IntKind}
 use Rattle.cr_ints.specs.declared.kind.IntKind.TheVariants.{Int as IntegerKind, Char as CharKind}
 use Rattle.cr_ints.specs.Conversions.{convert_of, promote_of, common_of}
+use Rattle.cr_memory.specs.declared.value.Element.{Element}
 use Rattle.cr_memory.specs.declared.value.Scalar.{Scalar}
 use Rattle.cr_memory.specs.declared.value.Scalar.TheVariants as scalar
 use Rattle.cr_memory.specs.declared.value.Guard.{Guard}
@@ -38,12 +39,11 @@ use Rattle.cr_syntax.specs.declared.node.Node.{Node}
 pub use Rattle.cr_syntax.specs.Numbered.{first_if, last_if, parts_if, spelling_if}
 use Rattle.cr_tokens.specs.declared.token.Token.{Token}
 use Rattle.cr_typed.specs.declared.typed.Typed.{Typed}
-use Rattle.cr_typed.specs.Typed.{row_cells}
 use Rattle.cr_typed.specs.declared.typed.Put.{Put}
 use Rattle.cr_typed.specs.declared.typed.Duration.{Duration}
 use Rattle.cr_typed.specs.declared.typed.Duration.TheVariants as duration
 use Rattle.cr_check_types.specs.Types.{Qualified, plain, pointer, type_at}
-use Rattle.cr_meaning_operations.specs.Shapes.{type_of_node, named_type, value_type, cells_of, stride_of, kind_in, is_pointer, is_volatile, form_of, access_of, shape_of, members_of, offset_in, number_of}
+use Rattle.cr_meaning_operations.specs.Shapes.{type_of_node, named_type, value_type, cells_of, kind_in, is_pointer, is_volatile, form_of, access_of, shape_of, members_of, offset_in, number_of, name_in, as_element, pointed_element}
 
 -- ---- nodes
 
@@ -127,8 +127,8 @@ node_op parts work = record { parts = parts; work = work; access = access.Unused
 
 -- an operator of the operands' common kind (6.3.1.8); a pointer beside an integer moves
 abbrev pub change_of : Typed → Operator → Bool → IntKind → Qualified → Qualified → Change
-change_of t op back kind (pointer c v below) right = Move back (cells_of t below)
-change_of t op back kind left (pointer c v below) = Move back (cells_of t below)
+change_of t op back kind (pointer c v below) right = Move back (as_element t below)
+change_of t op back kind left (pointer c v below) = Move back (as_element t below)
 change_of t op back kind left right = Arithmetic op kind
 
 abbrev pub common_kind : Qualified → Qualified → IntKind
@@ -153,7 +153,7 @@ sum t node = node_op (parts_at t node) (work.Binary (change_of t operator.Add fa
 abbrev pub difference : Typed → ℕ → Op
 difference t node =
     if is_pointer (left_type t node) && is_pointer (right_type t node)
-    then node_op (parts_at t node) (work.Distance (stride_of t (left_type t node)))
+    then node_op (parts_at t node) (work.Distance (pointed_element t (left_type t node)))
     else node_op (parts_at t node) (work.Binary (change_of t operator.Subtract true (common_kind (left_type t node) (right_type t node)) (left_type t node) (right_type t node)))
 
 abbrev pub comparison : Typed → ℕ → Relation → Op
@@ -191,13 +191,13 @@ abbrev pub placed : Typed → ℕ → List ℕ → Work → Op
 placed t node parts work = record { parts = parts; work = work; access = access_of t node }
 
 -- `&*E` is E, and `&E1[E2]` is the sum of both (6.5.3.2p3)
-abbrev pub either_stride : Typed → Qualified → Qualified → ℕ
-either_stride t (pointer c v below) right = cells_of t below
-either_stride t left right = stride_of t right
+abbrev pub either_element : Typed → Qualified → Qualified → Element
+either_element t (pointer c v below) right = as_element t below
+either_element t left right = pointed_element t right
 
 abbrev pub address_by : Typed → ℕ → ℕ → Kind → Op
 address_by t node operand kind.Dereference = node_op (parts_at t operand) work.Pass
-address_by t node operand kind.Subscript = node_op (parts_at t operand) (work.Binary (Move false (either_stride t (left_type t operand) (right_type t operand))))
+address_by t node operand kind.Subscript = node_op (parts_at t operand) (work.Binary (Move false (either_element t (left_type t operand) (right_type t operand))))
 address_by t node operand other = node_op (parts_at t node) work.AddressOf
 
 abbrev pub pointed : Qualified → Qualified
@@ -209,11 +209,11 @@ chosen_row t node structure = slice_index_or (members_of t structure) (slice_ind
 
 abbrev pub member : Typed → ℕ → Qualified → Op
 member t node structure = placed t node (parts_at t node)
-    (work.Member (cells_of t structure) (offset_in t structure (slice_index_or t.chosen node 0)) (row_cells t (chosen_row t node structure)) (form_of t (chosen_row t node structure)))
+    (work.Member (cells_of t structure) (offset_in t structure (slice_index_or t.chosen node 0)) (as_element t (type_at t.shapes (chosen_row t node structure))) (form_of t (chosen_row t node structure)))
 
 abbrev pub pointer_member : Typed → ℕ → Qualified → Op
 pointer_member t node structure = placed t node (parts_at t node)
-    (work.PointerMember (cells_of t structure) (offset_in t structure (slice_index_or t.chosen node 0)) (row_cells t (chosen_row t node structure)))
+    (work.PointerMember (as_element t structure) (offset_in t structure (slice_index_or t.chosen node 0)) (as_element t (type_at t.shapes (chosen_row t node structure))))
 
 -- a constant of the expression's type
 abbrev pub constant_by : Typed → ℕ → Option ℤ → Op
@@ -224,7 +224,7 @@ abbrev pub constant : Typed → ℕ → Op
 constant t node = constant_by t node (slice_index_or t.constants node None)
 
 abbrev pub identifier_by : Typed → ℕ → Option ℤ → Op
-identifier_by t node None = placed t node [] (work.Object (entity_of t node))
+identifier_by t node None = placed t node [] (work.Object (entity_of t node) (name_in t (named_type t (entity_of t node))))
 identifier_by t node (Some value) = constant_by t node (Some value)
 
 -- ---- calls (6.5.2.2)
@@ -387,7 +387,7 @@ op_by t node kind.Cast = node_op (part_at t node 1 ∷ []) (work.Cast (form_of t
 op_by t node kind.PreIncrement = increment t node operator.Add false false
 op_by t node kind.PreDecrement = increment t node operator.Subtract true false
 op_by t node kind.AddressOf = address_by t node (part_at t node 0) (kind_at t (part_at t node 0))
-op_by t node kind.Dereference = placed t node (parts_at t node) (work.Dereference (stride_of t (left_type t node)))
+op_by t node kind.Dereference = placed t node (parts_at t node) (work.Dereference (pointed_element t (left_type t node)))
 op_by t node kind.Plus = unary t node sign.Plus
 op_by t node kind.Minus = unary t node sign.Minus
 op_by t node kind.Complement = unary t node sign.Complement
@@ -395,7 +395,7 @@ op_by t node kind.Not = node_op (parts_at t node) work.Not
 op_by t node kind.SizeofExpression = constant t node
 op_by t node kind.SizeofType = constant t node
 op_by t node kind.Call = node_op (parts_at t node) (work.Call (callee_of t node))
-op_by t node kind.Subscript = placed t node (parts_at t node) (work.Subscript (either_stride t (left_type t node) (right_type t node)))
+op_by t node kind.Subscript = placed t node (parts_at t node) (work.Subscript (either_element t (left_type t node) (right_type t node)))
 op_by t node kind.Member = member t node (type_of_node t (part_at t node 0))
 op_by t node kind.PointerMember = pointer_member t node (pointed (left_type t node))
 op_by t node kind.PostIncrement = increment t node operator.Add false true
@@ -403,7 +403,7 @@ op_by t node kind.PostDecrement = increment t node operator.Subtract true true
 op_by t node kind.Identifier = identifier_by t node (slice_index_or t.constants node None)
 op_by t node kind.Integer = constant t node
 op_by t node kind.Character = constant t node
-op_by t node kind.Text = placed t node [] (work.Object node)
+op_by t node kind.Text = placed t node [] (work.Object node (name_in t (type_of_node t node)))
 op_by t node kind.Group = placed t node (parts_at t node) work.Pass
 op_by t node kind.Compound = node_op (parts_at t node) (work.Block (objects_in t (parts_at t node)) (targets_from t 0 (parts_at t node)))
 op_by t node kind.ExpressionStatement = node_op (parts_at t node) work.Expression

@@ -1,8 +1,9 @@
 -- What the run needs of types: their cells, with kinds and guards, and how they are named in operations.
-use Rattle.std.specs.Prelude.{ℕ, zero, suc, Bool, true, false, ◌||◌, List, [], ◌∷◌, ◌++◌, take, length, sum_by, slice_index_or, if◌then◌else◌}
+use Rattle.std.specs.Prelude.{ℕ, zero, suc, ◌+◌, ◌*◌, Bool, true, false, ◌||◌, List, [], ◌∷◌, ◌++◌, map, take, length, sum_by, slice_index_or, if◌then◌else◌}
 use Rattle.std.specs.List.{flat_map}
 use Rattle.cr_ints.specs.declared.kind.IntKind.{IntKind}
 use Rattle.cr_ints.specs.declared.kind.IntKind.TheVariants.{Int as IntegerKind}
+use Rattle.cr_memory.specs.declared.value.Element.{Element}
 use Rattle.cr_memory.specs.declared.value.Scalar.{Scalar}
 use Rattle.cr_memory.specs.declared.value.Scalar.TheVariants as scalar
 use Rattle.cr_memory.specs.declared.value.Guard.{Guard}
@@ -11,6 +12,7 @@ use Rattle.cr_meaning.specs.declared.op.Form.{Form}
 use Rattle.cr_meaning.specs.declared.op.Form.TheVariants as form
 use Rattle.cr_meaning.specs.declared.op.Access.{Access}
 use Rattle.cr_meaning.specs.declared.op.Access.TheVariants as access
+use Rattle.cr_meaning.specs.Values.{scalar_name}
 use Rattle.cr_syntax.specs.declared.ctype.CType.TheVariants.{Void, Int, Struct}
 use Rattle.cr_typed.specs.declared.typed.Typed.{Typed}
 use Rattle.cr_typed.specs.Typed.{row_cells}
@@ -38,11 +40,6 @@ value_type t node = as_value (type_of_node t node)
 abbrev pub cells_of : Typed → Qualified → ℕ
 cells_of t type = (layout_of t.layouts type).cells
 
--- of what a pointer points to
-abbrev pub stride_of : Typed → Qualified → ℕ
-stride_of t (pointer c v below) = cells_of t below
-stride_of t type = 0
-
 abbrev pub kind_in : Qualified → IntKind
 kind_in (plain (Int kind) c v) = kind
 kind_in type = IntegerKind
@@ -66,6 +63,30 @@ first_row (other ∷ rest) type at = if are_compatible other type then at else f
 abbrev pub number_of : Typed → Qualified → ℕ
 number_of t type = first_row (types_of t.shapes) type 0
 
+-- ---- elements of arrays
+
+-- without qualifiers, also of elements: two types are one for the use of a pointer where they are compatible so
+abbrev pub unqualified : Qualified → Qualified
+unqualified (plain of c v) = plain of false false
+unqualified (pointer c v below) = pointer false false below
+unqualified (array n below) = array n (unqualified below)
+
+-- what names a type that objects have: pointers, structures and arrays take turns behind the integer types. No other is followed.
+abbrev pub name_in : Typed → Qualified → ℕ
+name_in t (plain (Int kind) c v) = scalar_name (scalar.Int kind)
+name_in t (plain (Struct node) c v) = 13 + 3 * node
+name_in t (plain other c v) = 0
+name_in t (pointer c v below) = scalar_name (scalar.Pointer (number_of t below))
+name_in t (array n below) = 14 + 3 * first_row (map unqualified (types_of t.shapes)) (array n (unqualified below)) 0
+
+abbrev pub as_element : Typed → Qualified → Element
+as_element t type = record { cells = cells_of t type; of = name_in t type }
+
+-- what a pointer points to
+abbrev pub pointed_element : Typed → Qualified → Element
+pointed_element t (pointer c v below) = as_element t below
+pointed_element t type = record { cells = 0; of = 0 }
+
 abbrev pub form_by : Typed → ℕ → Qualified → Form
 form_by t row (plain Void c v) = form.Void
 form_by t row (plain (Int kind) c v) = form.Number kind
@@ -80,7 +101,7 @@ abbrev pub access_by : Typed → ℕ → Qualified → Access
 access_by t row (plain (Int kind) c v) = access.Scalar (scalar.Int kind) v
 access_by t row (plain (Struct node) c v) = access.Cells row
 access_by t row (pointer c v below) = access.Scalar (scalar.Pointer (number_of t below)) v
-access_by t row (array n below) = access.Array (cells_of t below) (cells_of t (array n below))
+access_by t row (array n below) = access.Array (as_element t below) (cells_of t (array n below))
 access_by t row other = access.Unused
 
 abbrev pub access_of : Typed → ℕ → Access

@@ -16,7 +16,7 @@ use Rattle.cr_memory.specs.Memory.{Object, Memory, live_object, has_ended}
 use Rattle.cr_memory.specs.Access.{is_null_or_end, some_object, number_of, cell_of, overwritten, with_cells, writing, save_of, put_of}
 use Rattle.cr_meaning.specs.Events.{Writes, own}
 use Rattle.cr_meaning.specs.World.{Program, then_by}
-use Rattle.cr_meaning.specs.Values.{cells_in, converted, changed, misfits}
+use Rattle.cr_meaning.specs.Values.{cells_in, converted, changed, strays}
 use Rattle.cr_meaning.specs.Work.{Did, events_from, events_at, deed_of, stored, assigned, loaded, updated}
 use Rattle.cr_meaning.specs.declared.op.Form.{Form}
 use Rattle.cr_meaning.specs.declared.op.Form.TheVariants as form
@@ -183,7 +183,7 @@ module _ (kept : Place → Bool) (p : Program) (m : Memory) where
 
   pub changes_assigned : (f : Form) (left value : Value) → ((new : Value) → converted m f value ≡ Ok new → Sized p f new) → Changes (assigned p m f left value)
   changes_assigned f (PlaceValue at) value z =
-      changes_unless (misfits (cells_in p f) at) _ _ (changes_then (converted m f value) _ (λ new e. changes_then (stored p m f at new) _ (λ memory k.
+      changes_unless (strays (cells_in p f) at) _ _ (changes_then (converted m f value) _ (λ new e. changes_then (stored p m f at new) _ (λ memory k.
       λ spared. stored_like f at new memory (z new e) k (spared_outside kept (number_of at) (cell_of at) (cells_in p f) spared))))
   changes_assigned f value right z = tt
 
@@ -192,6 +192,6 @@ module _ (kept : Place → Bool) (p : Program) (m : Memory) where
 
   pub changes_updated : (change : Change) (f : Form) (volatile post : Bool) (left right : Value) → cells_in p f ≡ 1 → ((new value : Value) → converted m f value ≡ Ok new → Sized p f new) → Changes (updated p m change f volatile post left right)
   changes_updated change f volatile post (PlaceValue at) right one z =
-      changes_unless (misfits 1 at) _ _ (changes_then (loaded m f at) _ (λ old e. changes_then (changed m change old right) _ (λ result g. changes_then (converted m f result) _ (λ new k. changes_then (stored p m f at new) _ (λ memory l.
+      changes_unless (strays 1 at) _ _ (changes_then (loaded m f at) _ (λ old e. changes_then (changed m change old right) _ (λ result g. changes_then (converted m f result) _ (λ new k. changes_then (stored p m f at new) _ (λ memory l.
       λ spared. let F : ℕ → Type 0 = λ x. Outside kept (number_of at) (cell_of at) x in stored_like f at new memory (z new result k) l (subst F (sym one) (last_spared volatile at spared)))))))
   changes_updated change f volatile post value right one z = tt

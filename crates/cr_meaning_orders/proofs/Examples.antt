@@ -29,11 +29,11 @@ op parts work = record { parts = parts; work = work; access = access.Unused }
 -- 0: `x`; 1: `f()`; 2: `g()`; 3: `x = 1`; 4: `y`; 5: `exit(0)`; 6: an operand's constant; x is the object of node 10, y that of 11
 abbrev ops : List Op
 ops =
-    op [] (work.Object 10)
+    op [] (work.Object 10 0)
     ∷ op [] (work.Call (Function [] 3 false))
     ∷ op [] (work.Call (Function [] 6 false))
     ∷ op (0 ∷ 6 ∷ []) (work.Assign (form.Number Int))
-    ∷ op [] (work.Object 11)
+    ∷ op [] (work.Object 11 0)
     ∷ op (6 ∷ []) (work.Call Exit)
     ∷ op [] (work.Constant Int (pos 1))
     ∷ []
@@ -150,7 +150,7 @@ fixed_with kept number o events at quiet reads free = record {
 
 -- the place of x is no read
 assignment_is_fixed : IsFixedNode program 2 (tree 0 bare (Some []) (call_f bare))
-assignment_is_fixed = fixed_with (λ cell. false) 0 (op [] (work.Object 10)) [] refl refl refl refl
+assignment_is_fixed = fixed_with (λ cell. false) 0 (op [] (work.Object 10 0)) [] refl refl refl refl
 
 other_is_fixed : IsFixedNode program 2 (read 4 y_cell (call_f bare))
-other_is_fixed = fixed_with (λ cell. cell.0 == 1) 4 (op [] (work.Object 11)) (event Reads y_cell ∷ []) refl refl refl refl
+other_is_fixed = fixed_with (λ cell. cell.0 == 1) 4 (op [] (work.Object 11 0)) (event Reads y_cell ∷ []) refl refl refl refl

@@ -3,12 +3,13 @@ use Rattle.std.proofs.Common.{◌≡◌, refl}
 use Rattle.std.specs.Prelude.{ℕ, ◌==◌, pos, Bool, true, false, Result, Ok, Err, List, [], ◌∷◌, length, if◌then◌else◌}
 use Rattle.cr_footprint.specs.Cell.{Cell as Place}
 use Rattle.cr_ints.specs.declared.kind.IntKind.TheVariants.{Int as IntegerKind}
+use Rattle.cr_memory.specs.declared.value.Element.{Element}
 use Rattle.cr_memory.specs.declared.value.Pointer.{Pointer}
 use Rattle.cr_memory.specs.declared.value.Trap.{Trap}
 use Rattle.cr_memory.specs.Memory.{Memory, live_object}
 use Rattle.cr_memory.specs.Access.{reach_of, load_of, cells_of}
 use Rattle.cr_meaning.specs.World.{Program, World, object_for}
-use Rattle.cr_meaning.specs.Values.{misfits, converted}
+use Rattle.cr_meaning.specs.Values.{strays, converted}
 use Rattle.cr_meaning.specs.Work.{Did, plainly, giving, used, at_place, place_of, passed, member_of, alone, on_one, on_two, by_count, work_of, updated, first_element}
 use Rattle.cr_meaning.specs.declared.op.Access.{Access}
 use Rattle.cr_meaning.specs.declared.op.Access.TheVariants as access
@@ -36,12 +37,12 @@ module _ (kept : Place → Bool) (p : Program) (m : Memory) where
   stays_used : (a : Access) (at : Pointer) → Stays (used p a m at)
   stays_used access.Unused at = λ spared n. like_self kept n (live_object m n)
   stays_used (access.Scalar kind volatile) at =
-      changes_unless kept p m (misfits 1 at) _ _ (changes_then kept p m (load_of m at kind) _ (λ held e. λ spared n. like_self kept n (live_object m n)))
+      changes_unless kept p m (strays 1 at) _ _ (changes_then kept p m (load_of m at kind) _ (λ held e. λ spared n. like_self kept n (live_object m n)))
   stays_used (access.Cells row) at =
-      changes_unless kept p m (misfits (length (p.kinds row)) at) _ _ (changes_then kept p m (cells_of m at (p.kinds row)) _ (λ held e. λ spared n. like_self kept n (live_object m n)))
+      changes_unless kept p m (strays (length (p.kinds row)) at) _ _ (changes_then kept p m (cells_of m at (p.kinds row)) _ (λ held e. λ spared n. like_self kept n (live_object m n)))
   stays_used (access.Array stride whole) at =
       let rest = changes_then kept p m (reach_of m at) (λ _. plainly m (Pointing (first_element at stride))) (λ _ e. λ spared n. like_self kept n (live_object m n)) in
-      stays_if (whole == 0) _ _ rest (changes_unless kept p m (misfits whole at) _ _ rest)
+      stays_if (whole == 0) _ _ rest (changes_unless kept p m (strays whole at) _ _ rest)
 
   stays_place : (a : Access) (r : Result Pointer Trap) → Stays (at_place p a m r)
   stays_place a r = changes_then kept p m r (used p a m) (λ at e. stays_used a at)
@@ -50,7 +51,7 @@ module _ (kept : Place → Bool) (p : Program) (m : Memory) where
   stays_passed a (PlaceValue at) = stays_used a at
   stays_passed a value = λ spared n. like_self kept n (live_object m n)
 
-  stays_member : (a : Access) (whole before count : ℕ) (f : Form) (value : Value) → Stays (member_of p a m whole before count f value)
+  stays_member : (a : Access) (whole before : ℕ) (count : Element) (f : Form) (value : Value) → Stays (member_of p a m whole before count f value)
   stays_member a whole before count f (PlaceValue at) = stays_place a _
   stays_member a whole before count f (Cells cells) = stays_giving _
   stays_member a whole before count f value = tt
@@ -58,8 +59,8 @@ module _ (kept : Place → Bool) (p : Program) (m : Memory) where
   stays_updated : (change : Change) (f : Form) (volatile post : Bool) (left right : Value) → Stays (updated p m change f volatile post left right)
   stays_updated change (form.Number kind) volatile post left right = changes_updated kept p m change (form.Number kind) volatile post left right refl (λ new value e. tt)
   stays_updated change (form.Pointer to) volatile post left right = changes_updated kept p m change (form.Pointer to) volatile post left right refl (λ new value e. tt)
-  stays_updated change form.Void volatile post (PlaceValue at) right = changes_unless kept p m (misfits 1 at) _ _ tt
-  stays_updated change (form.Cells row) volatile post (PlaceValue at) right = changes_unless kept p m (misfits 1 at) _ _ tt
+  stays_updated change form.Void volatile post (PlaceValue at) right = changes_unless kept p m (strays 1 at) _ _ tt
+  stays_updated change (form.Cells row) volatile post (PlaceValue at) right = changes_unless kept p m (strays 1 at) _ _ tt
   stays_updated change f volatile post left right = tt
 
 module _ (kept : Place → Bool) (p : Program) (s : World) where
@@ -73,7 +74,7 @@ module _ (kept : Place → Bool) (p : Program) (s : World) where
 
   stays_alone : (w : Work) (a : Access) → Remains (alone p s w a)
   stays_alone (work.Constant kind value) a = λ spared n. like_self kept n (live_object s.memory n)
-  stays_alone (work.Object node) a = stays_place kept p s.memory a (place_of s.memory (object_for s.bindings node))
+  stays_alone (work.Object node of) a = stays_place kept p s.memory a (place_of s.memory (object_for s.bindings node) of)
   stays_alone w a = tt
 
   stays_one : (w : Work) (a : Access) (value : Value) → Remains (on_one p s w a value)

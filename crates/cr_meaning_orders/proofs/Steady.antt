@@ -14,9 +14,9 @@ use Rattle.cr_library.specs.declared.piece.Piece.{Piece}
 use Rattle.cr_meaning.specs.Language.{went, halts}
 use Rattle.cr_meaning.specs.Events.{clash, operands_clash}
 use Rattle.cr_meaning.specs.World.{Program, World, Answer, next, stopped, exited, then_by, with_binding, enter_object, enter_all, automatic, static, marked, object_for}
-use Rattle.cr_meaning.specs.Values.{asked, converted, as_pointer, if_fits}
+use Rattle.cr_meaning.specs.Values.{asked, converted, as_pointer, if_fits, scalar_element}
 use Rattle.cr_meaning.specs.Work.{integer, is_nothing, alone, on_one, on_two, by_count, work_of}
-use Rattle.cr_meaning.specs.Library.{Called, put_out, formatted, printf_of, putchar_of, byte_of, text_at, pieces_of, exit_of}
+use Rattle.cr_meaning.specs.Library.{Called, char, put_out, formatted, printf_of, putchar_of, byte_of, text_at, pieces_of, exit_of}
 use Rattle.cr_meaning.specs.Turns.{Way, Operand, Enter, Resume, Ready, next_of}
 use Rattle.cr_meaning.specs.Nodes.{Act, stops, resulting, entering, value_of, values, events_of, order_of, all_events, evaluated, expression, arguments, enter_parameters, with_argument, deeper, begun, called, after_library, library, call_end, initials, initialised, on_object}
 use Rattle.cr_meaning.specs.Meaning.{body, Goal, reach, operands, on_way, at_op, takes_step, stepped, reached_by, reached, controlled, opened, opened_if, switched, strings_of, main_entered, program_before, for_before, block_before, control_before, do_before, call_before, before_by, if_end, while_end, do_end, for_end, switch_end, return_end, join_by}
@@ -55,7 +55,7 @@ blind_unless false trap node n one other h = h
 
 blind_alone : (p : Program) (w : Work) (a : Access) (s : World) (n : ℕ) → alone p (record s { steps = n }) w a ≡ alone p s w a
 blind_alone p (work.Constant kind value) a s n = refl
-blind_alone p (work.Object node) a s n = refl
+blind_alone p (work.Object node of) a s n = refl
 blind_alone p w a s n = refl
 
 blind_one : (p : Program) (w : Work) (a : Access) (value : Value) (s : World) (n : ℕ) → on_one p (record s { steps = n }) w a value ≡ on_one p s w a value
@@ -164,9 +164,9 @@ blind_printf p s n texts (format ∷ given) = by_format (as_pointer format)
     by_text (Err trap) = refl
 
     by_format : (r : Result Pointer Trap)
-        → then_by r (λ at. if_fits 1 at (if list_any is_nothing given then Err (Undefined 15) else then_by (text_at s.memory at) (λ bytes. formatted p (record s { steps = n }) (zip texts given) (pieces_of bytes))))
-        ≡ then_by r (λ at. if_fits 1 at (if list_any is_nothing given then Err (Undefined 15) else then_by (text_at s.memory at) (λ bytes. formatted p s (zip texts given) (pieces_of bytes))))
-    by_format (Ok at) = ap (λ (r : Result Called Trap). if_fits 1 at (if list_any is_nothing given then Err (Undefined 15) else r)) (by_text (text_at s.memory at))
+        → then_by r (λ at. if_fits char at (if list_any is_nothing given then Err (Undefined 15) else then_by (text_at s.memory at) (λ bytes. formatted p (record s { steps = n }) (zip texts given) (pieces_of bytes))))
+        ≡ then_by r (λ at. if_fits char at (if list_any is_nothing given then Err (Undefined 15) else then_by (text_at s.memory at) (λ bytes. formatted p s (zip texts given) (pieces_of bytes))))
+    by_format (Ok at) = ap (λ (r : Result Called Trap). if_fits char at (if list_any is_nothing given then Err (Undefined 15) else r)) (by_text (text_at s.memory at))
     by_format (Err trap) = refl
 
 blind_putchar : (p : Program) (s : World) (n : ℕ) (given : List Value) → putchar_of p (record s { steps = n }) given ≡ putchar_of p s given
@@ -269,7 +269,7 @@ blind_main : (p : Program) (strings : Scalar) (parameters : List Parameter) (s :
 blind_main p strings [] s n = refl
 blind_main p strings (count ∷ []) s n = refl
 blind_main p strings (count ∷ vector ∷ []) s n =
-    let given : List Value = Number IntegerKind (pos 0) ∷ Pointing (At (length s.memory.objects) 0 0 1 1) ∷ [] in
+    let given : List Value = Number IntegerKind (pos 0) ∷ Pointing (At (length s.memory.objects) 0 0 1 (scalar_element strings)) ∷ [] in
     let F : Result World (Trap × ℕ) → Result World (Trap × ℕ) = λ r. elim r as (λ _. Result World (Trap × ℕ)) [ Ok entered ↦ enter_parameters p entered (count ∷ vector ∷ []) given | Err case ↦ Err case ] in
     ap F (blind_object s n vector.node (strings_of strings))
     ∙ after_entered n (enter_object s vector.node (strings_of strings)) (λ world. enter_parameters p world (count ∷ vector ∷ []) given) (λ world. blind_parameters p world n (count ∷ vector ∷ []) given)

@@ -6,6 +6,7 @@ use Rattle.std.specs.List.{list_any}
 use Rattle.cr_ints.specs.declared.kind.IntKind.{IntKind}
 use Rattle.cr_ints.specs.declared.end.IntEnd.{IntEnd}
 use Rattle.cr_ints.specs.declared.end.IntEnd.TheVariants as end
+use Rattle.cr_memory.specs.declared.value.Element.{Element}
 use Rattle.cr_memory.specs.declared.value.Pointer.{Pointer}
 use Rattle.cr_memory.specs.declared.value.Pointer.TheVariants.{Null, At}
 use Rattle.cr_memory.specs.declared.value.Scalar.{Scalar}
@@ -21,7 +22,7 @@ use Rattle.cr_memory.specs.Memory.{Memory, Holds, AllHold, IsPointer, has_ended}
 use Rattle.cr_memory.specs.Access.{is_null_or_end, is_literal, is_constant, is_unset, holds_ended, number_of, cell_of, cell_at, shape_at, shape_run_at, have_kinds, with_cells, writing, reach_of, load_of, cells_of}
 use Rattle.cr_memory.specs.Pointers.{moved_by, difference_of, differ_of, are_told, order_of, less_of, is_in_literal, equality_by, same_of}
 use Rattle.cr_meaning.specs.World.{Program, then_by}
-use Rattle.cr_meaning.specs.Values.{kinds_in, cells_in, value_in, asked, converted, is_null, exactly, computed, signed_by, misfits, moved, moved_either, changed, pointing, as_pointer, with_pointers, holding, related, misfit_value, if_both_fit, distance}
+use Rattle.cr_meaning.specs.Values.{kinds_in, cells_in, value_in, asked, converted, is_null, exactly, computed, signed_by, misfits, strays, moved, moved_either, changed, pointing, as_pointer, with_pointers, holding, related, misfit_value, if_both_fit, distance}
 use Rattle.cr_meaning.specs.Work.{plainly, giving, used, at_place, inner_of, taken, followed, stored, assigned, loaded, did_update, updated, is_nothing, is_void, logical, conditional, cast, integer, comparison, address, passed}
 use Rattle.cr_meaning.specs.declared.op.Access.{Access}
 use Rattle.cr_meaning.specs.declared.op.Access.TheVariants as access
@@ -160,10 +161,10 @@ signed_cased Complement kind value = tt
 pub moved_by_cased : (at : Pointer) (by : ℤ) → Cased (moved_by at by)
 moved_by_cased Null by = tt
 moved_by_cased (At object cell low high stride) by =
-    let to = pos cell +ℤ by *ℤ pos stride in
+    let to = pos cell +ℤ by *ℤ pos stride.cells in
     cased_either (int_le (pos low) to && int_le to (pos high)) (Ok (At object (unsigned_abs to) low high stride)) (Err (Undefined SUM_OUTSIDE)) tt tt
 
-pub moved_cased : (memory : Memory) (back : Bool) (count : ℕ) (at : Pointer) (value : Value) → IsNumberValue value → Cased (moved memory back count at value)
+pub moved_cased : (memory : Memory) (back : Bool) (count : Element) (at : Pointer) (value : Value) → IsNumberValue value → Cased (moved memory back count at value)
 moved_cased memory back count at (Number kind value) h =
     cased_if (misfits count at) (Left 5) _ tt (cased_if (has_ended memory at) (Undefined ENDED) _ tt (moved_by_cased at (if back then neg_ℤ value else value)))
 moved_cased memory back count at Nothing h = cased_if (misfits count at) (Left 5) _ tt tt
@@ -172,7 +173,7 @@ moved_cased memory back count at value h = absurd h
 abbrev pub AreMoved : Value → Value → Type 0
 AreMoved left right = (IsPointerValue left × IsNumberValue right) ⊎ (IsNumberValue left × IsPointerValue right)
 
-pub moved_either_cased : (memory : Memory) (back : Bool) (count : ℕ) (left right : Value) → AreMoved left right → Cased (moved_either memory back count left right)
+pub moved_either_cased : (memory : Memory) (back : Bool) (count : Element) (left right : Value) → AreMoved left right → Cased (moved_either memory back count left right)
 moved_either_cased memory back count (Pointing at) right (inl h) = moved_cased memory back count at right h.1
 moved_either_cased memory back count Nothing Nothing (inl h) = tt
 moved_either_cased memory back count Nothing (Number kind value) (inl h) = tt
@@ -235,7 +236,7 @@ pub distance_cased : (memory : Memory) (left right : Pointer) → Cased (distanc
 distance_cased memory left right =
     cased_all (differ_of memory left right) _ (cased_if (has_ended memory left || has_ended memory right) (Undefined ENDED) _ tt (difference_cased left right)) (λ by. tt)
 
-pub both_fit_cased : {A : Type 0} (count : ℕ) (left right : Value) (rest : Result A Trap) → Cased rest → Cased (if_both_fit count left right rest)
+pub both_fit_cased : {A : Type 0} (count : Element) (left right : Value) (rest : Result A Trap) → Cased rest → Cased (if_both_fit count left right rest)
 both_fit_cased count left right rest h = cased_if (misfit_value count left) (Left 5) _ tt (cased_if (misfit_value count right) (Left 5) _ tt h)
 
 -- ---- cells
@@ -264,12 +265,12 @@ writing_cased false false false false true state = tt
 
 pub used_cased : (p : Program) (a : Access) (memory : Memory) (at : Pointer) → Cased (used p a memory at)
 used_cased p access.Unused memory at = tt
-used_cased p (access.Scalar kind volatile) memory at = cased_if (misfits 1 at) (Left 5) _ tt (cased_all (load_of memory at kind) _ (load_cased memory at kind) (λ held. tt))
+used_cased p (access.Scalar kind volatile) memory at = cased_if (strays 1 at) (Left 5) _ tt (cased_all (load_of memory at kind) _ (load_cased memory at kind) (λ held. tt))
 used_cased p (access.Cells row) memory at =
-    cased_if (misfits (length (p.kinds row)) at) (Left 5) _ tt (cased_all (cells_of memory at (p.kinds row)) _ (read_cased memory at (p.kinds row)) (λ held. tt))
+    cased_if (strays (length (p.kinds row)) at) (Left 5) _ tt (cased_all (cells_of memory at (p.kinds row)) _ (read_cased memory at (p.kinds row)) (λ held. tt))
 used_cased p (access.Array stride whole) memory at =
     let rest = cased_all (reach_of memory at) (λ _. plainly memory (Pointing _)) (reach_cased memory at) (λ u. tt) in
-    cased_either (whole == 0) _ _ rest (cased_if (misfits whole at) (Left 5) _ tt rest)
+    cased_either (whole == 0) _ _ rest (cased_if (strays whole at) (Left 5) _ tt rest)
 
 pub at_place_cased : (p : Program) (a : Access) (memory : Memory) (result : Result Pointer Trap) → Cased result → Cased (at_place p a memory result)
 at_place_cased p a memory result h = cased_all result (used p a memory) h (λ at. used_cased p a memory at)
@@ -286,19 +287,19 @@ changed_cased memory op kind (Number k left) Nothing h g = tt
 changed_cased memory op kind (Number k left) right h g = absurd g
 changed_cased memory op kind left right h g = absurd h
 
-pub moved_change_cased : (memory : Memory) (back : Bool) (count : ℕ) (left right : Value) → AreMoved left right → Cased (changed memory (Move back count) left right)
+pub moved_change_cased : (memory : Memory) (back : Bool) (count : Element) (left right : Value) → AreMoved left right → Cased (changed memory (Move back count) left right)
 moved_change_cased memory back count left right h = cased_all (moved_either memory back count left right) pointing (moved_either_cased memory back count left right h) (λ at. tt)
 
 pub comparison_cased : (memory : Memory) (left right : Value) (f : ℤ → ℤ → Result Value Trap) → IsNumberValue left → IsNumberValue right → ((a b : ℤ) → Cased (f a b)) → Cased (comparison memory left right f)
 comparison_cased memory left right f l r h = cased_all (integer left) _ (integer_cased left l) (λ a. cased_all (integer right) _ (integer_cased right r) (λ b. h a b))
 
-pub followed_cased : (count : ℕ) (value : Value) (f : Pointer → Result Pointer Trap) → IsPointerValue value → ((at : Pointer) → Cased (f at)) → Cased (followed count value f)
+pub followed_cased : (count : Element) (value : Value) (f : Pointer → Result Pointer Trap) → IsPointerValue value → ((at : Pointer) → Cased (f at)) → Cased (followed count value f)
 followed_cased count (Pointing at) f h k = cased_if (misfits count at) (Left 5) _ tt (k at)
 followed_cased count Nothing f h k = tt
 followed_cased count value f h k = absurd h
 
-pub inner_cased : (memory : Memory) (whole before count : ℕ) (at : Pointer) → Cased (inner_of memory whole before count at)
-inner_cased memory whole before count at = cased_if (misfits whole at) (Left 5) _ tt (cased_all (reach_of memory at) _ (reach_cased memory at) (λ u. tt))
+pub inner_cased : (memory : Memory) (whole before : ℕ) (count : Element) (at : Pointer) → Cased (inner_of memory whole before count at)
+inner_cased memory whole before count at = cased_if (strays whole at) (Left 5) _ tt (cased_all (reach_of memory at) _ (reach_cased memory at) (λ u. tt))
 
 pub logical_cased : (memory : Memory) (f : Bool → Bool → Bool) (left : Value) → IsScalarValue left → Cased (logical memory f (left ∷ []))
 logical_cased memory f left h = cased_all (asked memory left) holding (asked_cased memory left h) (λ b. tt)
@@ -385,7 +386,7 @@ converted_stored memory (form.Cells row) value o h = absurd h
 
 pub assigned_cased : (p : Program) (memory : Memory) (form : Form) (left right : Value) → IsObject form → IsPlaceValue left → IsConvertedValue form right → Cased (assigned p memory form left right)
 assigned_cased p memory form (Place at) right o l r =
-    cased_if (misfits (cells_in p form) at) (Left 5) _ tt
+    cased_if (strays (cells_in p form) at) (Left 5) _ tt
     (cased_then (IsStoredValue form) (converted memory form right) _ (converted_cased memory form right r) (converted_stored memory form right o r)
     (λ new is. cased_all (stored p memory form at new) _ (stored_cased p memory form at new is) (λ after. tt)))
 assigned_cased p memory form left right o l r = absurd l
@@ -426,7 +427,7 @@ changed_number memory op kind (Number k left) (Number l right) = computed_number
 changed_number memory op kind left Nothing = tt
 changed_number memory op kind left right = tt
 
-pub changed_pointer : (memory : Memory) (back : Bool) (count : ℕ) (left right : Value) → IfOk (changed memory (Move back count) left right) IsPointerValue
+pub changed_pointer : (memory : Memory) (back : Bool) (count : Element) (left right : Value) → IfOk (changed memory (Move back count) left right) IsPointerValue
 changed_pointer memory back count left right = by_result (moved_either memory back count left right)
   where
     by_result : (r : Result Pointer Trap) → IfOk (then_by r pointing) IsPointerValue
@@ -453,17 +454,17 @@ changed_back p memory form volatile post at old result o h =
 pub updated_number_cased : (p : Program) (memory : Memory) (op : Operator) (kind own : IntKind) (volatile post : Bool) (at : Pointer) (right : Value) → IsSound memory → IsPointer memory at → IsNumberValue right
     → Cased (updated p memory (Arithmetic op kind) (form.Number own) volatile post (Place at) right)
 updated_number_cased p memory op kind own volatile post at right sound h r =
-    cased_if (misfits 1 at) (Left 5) _ tt
+    cased_if (strays 1 at) (Left 5) _ tt
     (cased_then IsNumberValue (loaded memory (form.Number own) at) _ (cased_all (load_of memory at (scalar.Int own)) _ (load_cased memory at (scalar.Int own)) (λ held. tt))
     (ok_then_of (Holds memory (scalar.Int own)) IsNumberValue (load_of memory at (scalar.Int own)) (λ held. value_in (scalar.Int own) held) (loaded_holds memory at (scalar.Int own) sound h)
     (λ held is. value_of_kind memory own held is))
     (λ old is. cased_then IsNumberValue (changed memory (Arithmetic op kind) old right) _ (changed_cased memory op kind old right is r) (changed_number memory op kind old right)
     (λ result number. changed_back p memory (form.Number own) volatile post at old result tt (as_scalar_number result number))))
 
-pub updated_pointer_cased : (p : Program) (memory : Memory) (back : Bool) (count to : ℕ) (volatile post : Bool) (at : Pointer) (right : Value) → IsSound memory → IsPointer memory at → IsNumberValue right
+pub updated_pointer_cased : (p : Program) (memory : Memory) (back : Bool) (count : Element) (to : ℕ) (volatile post : Bool) (at : Pointer) (right : Value) → IsSound memory → IsPointer memory at → IsNumberValue right
     → Cased (updated p memory (Move back count) (form.Pointer to) volatile post (Place at) right)
 updated_pointer_cased p memory back count to volatile post at right sound h r =
-    cased_if (misfits 1 at) (Left 5) _ tt
+    cased_if (strays 1 at) (Left 5) _ tt
     (cased_then IsPointerValue (loaded memory (form.Pointer to) at) _ (cased_all (load_of memory at (scalar.Pointer to)) _ (load_cased memory at (scalar.Pointer to)) (λ held. tt))
     (ok_then_of (Holds memory (scalar.Pointer to)) IsPointerValue (load_of memory at (scalar.Pointer to)) (λ held. value_in (scalar.Pointer to) held) (loaded_holds memory at (scalar.Pointer to) sound h)
     (λ held is. value_of_pointer memory to held is))

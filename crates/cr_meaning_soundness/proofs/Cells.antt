@@ -12,7 +12,7 @@ use Rattle.cr_memory.specs.declared.value.Cell.TheVariants.{Unset, Number, Point
 use Rattle.cr_memory.specs.declared.value.Guard.{Guard}
 use Rattle.cr_memory.specs.declared.value.Guard.TheVariants.{Free}
 use Rattle.cr_memory.specs.declared.value.Trap.TheVariants.{Undefined, Left}
-use Rattle.cr_memory.specs.declared.value.TheConstants.{NULL_OR_END, ENDED, UNSET, OTHER_TYPE}
+use Rattle.cr_memory.specs.declared.value.TheConstants.{NULL_OR_END, ENDED, OTHER_TYPE}
 use Rattle.cr_memory.specs.Kind.{is_same}
 use Rattle.cr_memory.specs.Memory.{Object, Memory, IsPointer, Holds, AllHold, live_object, count_of, has_ended}
 use Rattle.cr_memory.specs.Access.{some_object, is_null_or_end, is_literal, is_constant, is_unset, holds_ended, number_of, cell_of, cell_at, shape_at, cells_at, shape_run_at, have_kinds, overwritten, with_cells, load_of, save_of, put_of, cells_of, HasStride}
@@ -122,10 +122,10 @@ pub record Written (old new : Memory) : Type 0 where
 same_object : (old new : Option Object) → new ≡ old → IsAsBefore old new
 same_object old new e = record { lives = ap is_some e; shape = ap (λ o. (some_object o).shape) e; count = ap count_of e }
 
-abbrev written_in : Memory → ℕ → Object → List Cell → Memory
+abbrev pub written_in : Memory → ℕ → Object → List Cell → Memory
 written_in memory number live cells = record { most = memory.most; objects = set memory.objects number (Some (record { cells = cells; shape = live.shape })) }
 
-written_continues : (memory : Memory) (number : ℕ) (live : Object) (cells : List Cell) → live_object memory number ≡ Some live → length cells ≡ length live.cells
+pub written_continues : (memory : Memory) (number : ℕ) (live : Object) (cells : List Cell) → live_object memory number ≡ Some live → length cells ≡ length live.cells
     → Continues memory (written_in memory number live cells)
 written_continues memory number live cells e size = record {
   entered = omega (arith, length-set memory.objects number (Some (record { cells = cells; shape = live.shape })));
@@ -192,7 +192,7 @@ reached memory (At object cell low high stride) size h same alive inside =
     let o = some_there (live_object memory object) alive in
     let w = h.within o.0 o.1 in
     let below = leb-false high cell inside in
-    let element = stride_fits cell high stride h.stride_above below h.whole_after in
+    let element = stride_fits cell high stride.cells h.stride_above below h.whole_after in
     record { live = o.0; lives = o.1; within = omega arith }
 
 -- the same of a pointer to a cell

@@ -180,7 +180,7 @@ initial_sets p declared memory line sort value sound c g h =
     ok_then (λ new. IsSet p declared memory (line.cell, cells_of_value new)) (SetsAt p declared memory line) (converted memory line.form value) _
     (value_sets p declared memory line (converted memory line.form value) c (converted_holds p memory line.form sort value g h)) (λ new is. is)
 
-one_set : (P : ℕ × List Cell → Type 0) (Q : List (ℕ × List Cell) → Type 0) (line : Line) (one : Result (List Cell) Trap) (rest : Result (List (ℕ × List Cell)) (Trap × ℕ))
+pub one_set : (P : ℕ × List Cell → Type 0) (Q : List (ℕ × List Cell) → Type 0) (line : Line) (one : Result (List Cell) Trap) (rest : Result (List (ℕ × List Cell)) (Trap × ℕ))
     → IfOk one (λ held. P (line.cell, held)) → IfOk rest Q → ((set : ℕ × List Cell) (others : List (ℕ × List Cell)) → P set → Q others → Q (set ∷ others))
     → IfOk (elim one as (λ _. Result (List (ℕ × List Cell)) (Trap × ℕ)) [
       | Err trap ↦ Err (trap, line.user)

@@ -12,7 +12,7 @@ use Rattle.cr_memory.specs.declared.value.Cell.{Cell}
 use Rattle.cr_meaning.specs.Language.{went}
 use Rattle.cr_meaning.specs.Events.{operands_clash, clash}
 use Rattle.cr_meaning.specs.World.{Program, World, object_for, with_binding, enter_object, enter_all, automatic, marked, untyped, unused_value, Answer, next}
-use Rattle.cr_meaning.specs.Values.{asked}
+use Rattle.cr_meaning.specs.Values.{asked, scalar_element}
 use Rattle.cr_meaning.specs.Work.{Did, work_of, is_nothing}
 use Rattle.cr_meaning.specs.Nodes.{Act, stops, resulting, entering as entering_act, value_of, values, events_of, order_of, all_events, evaluated, expression, after_library, converted_all, arguments, with_argument, enter_parameters, deeper, begun, called, initial, set_parts, unused_in, initials, initialised, on_object}
 use Rattle.cr_meaning.specs.Library.{Called}
@@ -91,7 +91,7 @@ pub main_entered_cased : (p : Program) (strings : Scalar) (parameters : List Par
 main_entered_cased p strings [] world = tt
 main_entered_cased p strings (count ∷ []) world = tt
 main_entered_cased p strings (count ∷ vector ∷ []) world =
-    let given : List Value = Number IntegerKind (pos 0) ∷ Pointing (At (length world.memory.objects) 0 0 1 1) ∷ [] in
+    let given : List Value = Number IntegerKind (pos 0) ∷ Pointing (At (length world.memory.objects) 0 0 1 (scalar_element strings)) ∷ [] in
     cased_elim (enter_object world vector.node (strings_of strings)) (λ entered. enter_parameters p entered (count ∷ vector ∷ []) given) (enter_cased world vector.node (strings_of strings))
     (λ entered. enter_parameters_cased p (count ∷ vector ∷ []) given entered)
 main_entered_cased p strings (count ∷ vector ∷ more ∷ rest) world = tt

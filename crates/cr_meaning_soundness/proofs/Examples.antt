@@ -3,6 +3,7 @@
 use Rattle.std.proofs.Common.{◌≡◌, refl, subst, arith, inl}
 use Rattle.std.specs.Prelude.{ℕ, zero, suc, pos, Bool, true, false, Option, Some, None, List, [], ◌∷◌, slice_get}
 use Rattle.cr_ints.specs.declared.kind.IntKind.TheVariants.{Int, Char, UChar}
+use Rattle.cr_memory.specs.declared.value.Element.{Element}
 use Rattle.cr_memory.specs.declared.value.Scalar.{Scalar}
 use Rattle.cr_memory.specs.declared.value.Scalar.TheVariants as scalar
 use Rattle.cr_memory.specs.declared.value.Guard.{Guard}
@@ -58,7 +59,7 @@ two_parts sorts a b h i (suc k) node e = one_part sorts b i k node e
 -- i = i + 1
 abbrev sum : List Op
 sum =
-    op [] (work.Object 0) access.Unused ∷ op [] (work.Object 0) (access.Scalar (scalar.Int Int) false) ∷ op [] (work.Constant Int (pos 1)) access.Unused
+    op [] (work.Object 0 0) access.Unused ∷ op [] (work.Object 0 0) (access.Scalar (scalar.Int Int) false) ∷ op [] (work.Constant Int (pos 1)) access.Unused
     ∷ op (1 ∷ 2 ∷ []) (work.Binary (Arithmetic operator.Add Int)) access.Unused ∷ op (0 ∷ 3 ∷ []) (work.Assign (form.Number Int)) access.Unused ∷ []
 
 abbrev sum_sorts : ℕ → Option Sort
@@ -78,11 +79,15 @@ sum_is_typed (suc (suc (suc (suc zero)))) x own e f =
     (record { gives = (tt, (refl, λ node sort g h. tt)); parts = two_parts sum_sorts 0 3 (place 1, refl) (number Int, refl) }) e f
 sum_is_typed (suc (suc (suc (suc (suc node))))) x own e f = absurd cc
 
+-- an element of one cell; types have one name here
+abbrev single : Element
+single = record { cells = 1; of = 0 }
+
 -- *(a + 1)
 abbrev element : List Op
 element =
-    op [] (work.Object 1) (access.Array 1 2) ∷ op [] (work.Constant Int (pos 1)) access.Unused ∷ op (0 ∷ 1 ∷ []) (work.Binary (Move false 1)) access.Unused
-    ∷ op (2 ∷ []) (work.Dereference 1) (access.Scalar (scalar.Int Int) false) ∷ []
+    op [] (work.Object 1 0) (access.Array single 2) ∷ op [] (work.Constant Int (pos 1)) access.Unused ∷ op (0 ∷ 1 ∷ []) (work.Binary (Move false single)) access.Unused
+    ∷ op (2 ∷ []) (work.Dereference single) (access.Scalar (scalar.Int Int) false) ∷ []
 
 abbrev element_sorts : ℕ → Option Sort
 element_sorts zero = Some pointer

@@ -14,7 +14,7 @@ use Rattle.cr_memory.specs.Memory.{Memory}
 use Rattle.cr_meaning.specs.World.{Program, World}
 use Rattle.cr_meaning.specs.Values.{as_pointer, misfits}
 use Rattle.cr_meaning.specs.Work.{is_nothing, integer}
-use Rattle.cr_meaning.specs.Library.{Called, byte_of, text_at, printed, put_out, formatted, pieces_of, printf_of, putchar_of}
+use Rattle.cr_meaning.specs.Library.{Called, char, byte_of, text_at, printed, put_out, formatted, pieces_of, printf_of, putchar_of}
 use Rattle.cr_meaning.specs.declared.value.Value.{Value}
 use Rattle.cr_meaning.specs.declared.value.Value.TheVariants.{Number}
 use Rattle.cr_meaning_soundness.specs.Sorts.{Sort, number, Fits}
@@ -58,5 +58,5 @@ printf_fits p world texts [] h = tt
 printf_fits p world texts (format ∷ values) h =
     let Q : Called → Type 0 = CallFits world.memory (number IntegerKind) in
     ok_then (λ _. Unit {0}) Q (as_pointer format) _ (ok_any (as_pointer format))
-    (λ at _. ok_unless Q (misfits 1 at) (Left 5) _ (λ e. ok_unless Q (list_any is_nothing values) (Undefined 15) _
+    (λ at _. ok_unless Q (misfits char at) (Left 5) _ (λ e. ok_unless Q (list_any is_nothing values) (Undefined 15) _
     (λ f. ok_then (λ _. Unit {0}) Q (text_at world.memory at) _ (ok_any (text_at world.memory at)) (λ bytes _. formatted_fits p world (zip texts values) (pieces_of bytes) h))))

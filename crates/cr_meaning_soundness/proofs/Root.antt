@@ -17,6 +17,7 @@ use Rattle.cr_memory.specs.Continues.{Continues}
 use Rattle.cr_memory.proofs.Continuing.{continues-refl, whole-pointed}
 use Rattle.cr_meaning.specs.Language.{give, call}
 use Rattle.cr_meaning.specs.World.{Program, World, Binding, with_binding, enter_object, enter_all, static, literal_or, Answer, returned, Halt}
+use Rattle.cr_meaning.specs.Values.{scalar_element}
 use Rattle.cr_meaning.specs.Turns.{Way, Operand, Enter, Resume, Ready, in_turn, program_next, next_by, next_of, last_of}
 use Rattle.cr_meaning.specs.Nodes.{enter_parameters, deeper}
 use Rattle.cr_meaning.specs.Meaning.{operands, with_part, on_way, before_by, join_by, strings_of, main_entered, program_end}
@@ -79,10 +80,10 @@ strings_sort : (strings : Scalar) → IsPointerKind strings → sorts_in (string
 strings_sort (scalar.Int kind) h = absurd h
 strings_sort (scalar.Pointer to) h = refl
 
-strings_pointed : (memory new : Memory) (strings : Scalar) → new ≡ with_object memory (strings_of strings) → IsPointer new (At (length memory.objects) 0 0 1 1)
+strings_pointed : (memory new : Memory) (strings : Scalar) → new ≡ with_object memory (strings_of strings) → IsPointer new (At (length memory.objects) 0 0 1 (scalar_element strings))
 strings_pointed memory new strings e =
-    let F : Memory → Type 0 = λ m. IsPointer m (At (length memory.objects) 0 0 1 1) in
-    subst F (sym e) (whole-pointed (with_object memory (strings_of strings)) (length memory.objects) 1 (strings_of strings)
+    let F : Memory → Type 0 = λ m. IsPointer m (At (length memory.objects) 0 0 1 (scalar_element strings)) in
+    subst F (sym e) (whole-pointed (with_object memory (strings_of strings)) (length memory.objects) (scalar_element strings) (strings_of strings)
     (get_or_push memory.objects (Some (strings_of strings)) None (length memory.objects) refl) (omega arith) (omega arith))
 
 main_enters : (p : Program) (strings : Scalar) (parameters : List Parameter) (world : World) → IsWellFormed p world → AreMainParameters p strings parameters
@@ -91,7 +92,7 @@ main_enters p strings [] world well h = (grows_refl p world well, λ node among.
 main_enters p strings (count ∷ []) world well h = absurd h
 main_enters p strings (count ∷ vector ∷ []) world well h =
     let both = count ∷ vector ∷ [] in
-    let given : List Value = Number IntegerKind (pos 0) ∷ Pointing (At (length world.memory.objects) 0 0 1 1) ∷ [] in
+    let given : List Value = Number IntegerKind (pos 0) ∷ Pointing (At (length world.memory.objects) 0 0 1 (scalar_element strings)) ∷ [] in
     entered_then (λ new. Enters p world vector.node new × (new.memory ≡ with_object world.memory (strings_of strings))) (EntersAll p world (nodes_of both))
     (enter_object world vector.node (strings_of strings)) (λ entered. enter_parameters p entered both given)
     (ok_both (Enters p world vector.node) (λ new. new.memory ≡ with_object world.memory (strings_of strings)) (enter_object world vector.node (strings_of strings))
@@ -101,7 +102,7 @@ main_enters p strings (count ∷ vector ∷ []) world well h =
     (parameters_enter p both given entered e.0.0.well (
       hold_in_shape entered.memory (p.shape count.node) (scalar.Int IntegerKind ∷ []) (cell.Number (pos 0) ∷ []) h.0.0 (zero_or_one IntegerKind false, tt),
       (
-        hold_in_shape entered.memory (p.shape vector.node) (scalar.Pointer 0 ∷ []) (cell.Pointer (At (length world.memory.objects) 0 0 1 1) ∷ []) h.0.1
+        hold_in_shape entered.memory (p.shape vector.node) (scalar.Pointer 0 ∷ []) (cell.Pointer (At (length world.memory.objects) 0 0 1 (scalar_element strings)) ∷ []) h.0.1
             (strings_pointed world.memory entered.memory strings e.1, tt),
         tt,
       ),

@@ -2,6 +2,7 @@
 use Rattle.std.proofs.Common.{◌≡◌, ◌∙◌, subst, arith, inl, inr}
 use Rattle.std.specs.Prelude.{ℕ, ◌&&◌, ◌||◌, pos, Bool, true, false, Option, Some, None, Result, List, [], ◌∷◌, length, take, drop, slice_get, ◌⊎◌}
 use Rattle.cr_ints.specs.declared.kind.IntKind.TheVariants.{Int as IntegerKind}
+use Rattle.cr_memory.specs.declared.value.Element.{Element}
 use Rattle.cr_memory.specs.declared.value.Pointer.{Pointer}
 use Rattle.cr_memory.specs.declared.value.Scalar.{Scalar}
 use Rattle.cr_memory.specs.declared.value.Trap.{Trap}
@@ -110,7 +111,7 @@ both_shapes : (memory : Memory) (left right : Value) (one other : Sort) (P Q : S
     → ((sort : Sort) (value : Value) → Q sort → Fits memory sort value → B value) → P one → Q other → Fits memory one left → Fits memory other right → A left × B right
 both_shapes memory left right one other P Q A B f g p q l r = (f one left p l, g other right q r)
 
-moved_by_both : (p : Program) (sorts : ℕ → Option Sort) (op : Op) (memory : Memory) (done : List Answer) (back : Bool) (count : ℕ) (result : List Value → Result Did Trap) → length done ≡ length op.parts
+moved_by_both : (p : Program) (sorts : ℕ → Option Sort) (op : Op) (memory : Memory) (done : List Answer) (back : Bool) (count : Element) (result : List Value → Result Did Trap) → length done ≡ length op.parts
     → Operands sorts op memory done p → TakesChange sorts op (Move back count)
     → ((left right : Value) → Cases.AreMoved left right → Cases.Cased (result (left ∷ right ∷ []))) → Cases.Cased (result (values done))
 moved_by_both p sorts op memory done back count result e all (inl d) k =
@@ -123,21 +124,21 @@ object_form form.Void o = o
 object_form form o = tt
 
 -- a place or a structure's cells
-member_cased : (p : Program) (a : Access) (memory : Memory) (whole before count : ℕ) (form : Form) (own sort : Sort) (value : Value) → IsObjectForm form → IsStructure sort
-    → HasMember p a whole before count form own sort → Fits memory sort value → Cases.Cased (member_of p a memory whole before count form value)
+member_cased : (p : Program) (a : Access) (memory : Memory) (whole before : ℕ) (count : Element) (form : Form) (own sort : Sort) (value : Value) → IsObjectForm form → IsStructure sort
+    → HasMember p a whole before count.cells form own sort → Fits memory sort value → Cases.Cased (member_of p a memory whole before count form value)
 member_cased p a memory whole before count form own (place size) (Place at) o s m h = Cases.at_place_cased p a memory _ (Cases.inner_cased memory whole before count at)
 member_cased p a memory whole before count form own (place size) value o s m h = absurd h
 member_cased p a memory whole before count form own (cells kinds) Nothing o s m h = tt
 member_cased p a memory whole before count form own (cells kinds) (Cells held) o s m h =
-    let K : List Scalar → Type 0 = λ ks. AllHold memory ks (take count (drop before held)) in
-    Cases.giving_cased memory (taken memory form (take count (drop before held)))
-    (Cases.taken_cased p memory form (take count (drop before held)) (object_form form o) (subst K m.among (hold_taken memory _ _ count (hold_dropped memory kinds held before h))))
+    let K : List Scalar → Type 0 = λ ks. AllHold memory ks (take count.cells (drop before held)) in
+    Cases.giving_cased memory (taken memory form (take count.cells (drop before held)))
+    (Cases.taken_cased p memory form (take count.cells (drop before held)) (object_form form o) (subst K m.among (hold_taken memory _ _ count.cells (hold_dropped memory kinds held before h))))
 member_cased p a memory whole before count form own (cells kinds) value o s m h = absurd h
 member_cased p a memory whole before count form own sort value o s m h = absurd s
 
-bound_place : (memory : Memory) (o : Option ℕ) → (object : ℕ) × (o ≡ Some object) → Cases.Cased (place_of memory o)
-bound_place memory None h = absurd (cc h.1)
-bound_place memory (Some object) h = tt
+bound_place : (memory : Memory) (o : Option ℕ) (of : ℕ) → (object : ℕ) × (o ≡ Some object) → Cases.Cased (place_of memory o of)
+bound_place memory None of h = absurd (cc h.1)
+bound_place memory (Some object) of h = tt
 
 place_is : (memory : Memory) (sort : Sort) (value : Value) → Fits memory sort value → (at : Pointer) → value ≡ Place at → IsPointer memory at
 place_is memory sort value h at e = let F : Value → Type 0 = λ v. Fits memory sort v in placed memory sort at (subst F e h)
@@ -148,8 +149,8 @@ pub taken_work : (p : Program) (sorts : ℕ → Option Sort) (sees : ℕ → Boo
     → ((declared : ℕ) → sees declared ≡ true → IsBound declared world.bindings) → Computes p sorts op w own → Demands sorts sees op w → length done ≡ length op.parts
     → Operands sorts op world.memory done p → Cases.Cased (work_of p world w op.access (values done))
 taken_work p sorts sees op world (work.Constant kind value) own done plain well bound g d e all = by_none done (λ vs. work_of p world (work.Constant kind value) op.access vs) (e ∙ d) tt
-taken_work p sorts sees op world (work.Object declared) own done plain well bound g d e all =
-    by_none done (λ vs. work_of p world (work.Object declared) op.access vs) (e ∙ d.0) (Cases.at_place_cased p op.access world.memory _ (bound_place world.memory (object_for world.bindings declared) (bound declared d.1)))
+taken_work p sorts sees op world (work.Object declared of) own done plain well bound g d e all =
+    by_none done (λ vs. work_of p world (work.Object declared of) op.access vs) (e ∙ d.0) (Cases.at_place_cased p op.access world.memory _ (bound_place world.memory (object_for world.bindings declared) of (bound declared d.1)))
 taken_work p sorts sees op world work.Pass own done plain well bound g d e all = by_one p sorts op world.memory done (λ vs. work_of p world work.Pass op.access vs) (e ∙ d) all (λ value sort h has. Cases.passed_cased p op.access world.memory value)
 taken_work p sorts sees op world work.Comma own done plain well bound g d e all = by_two p sorts op world.memory done (λ vs. work_of p world work.Comma op.access vs) (e ∙ d) all (λ left right one other l r a b. tt)
 taken_work p sorts sees op world work.LogicalAnd own done plain well bound g d e all =
@@ -196,11 +197,11 @@ taken_work p sorts sees op world (work.Subscript count) own done plain well boun
     moved_by_both p sorts op world.memory done false count (λ vs. work_of p world (work.Subscript count) op.access vs) e all d (λ left right m. Cases.at_place_cased p op.access world.memory _ (Cases.moved_either_cased world.memory false count left right m))
 taken_work p sorts sees op world (work.Member whole before count form) own done plain well bound g d e all =
     by_one p sorts op world.memory done (λ vs. work_of p world (work.Member whole before count form) op.access vs) (e ∙ d.1.0) all (λ value sort h has.
-    member_cased p op.access world.memory whole before count form own sort value d.0 (has IsStructure d.1.1) (has (HasMember p op.access whole before count form own) g) h)
+    member_cased p op.access world.memory whole before count form own sort value d.0 (has IsStructure d.1.1) (has (HasMember p op.access whole before count.cells form own) g) h)
 taken_work p sorts sees op world (work.PointerMember whole before count) own done plain well bound g d e all =
     by_one p sorts op world.memory done (λ vs. work_of p world (work.PointerMember whole before count) op.access vs) (e ∙ d.0) all (λ value sort h has.
-    Cases.at_place_cased p op.access world.memory _ (Cases.followed_cased whole value (inner_of world.memory whole before count) (pointer_value world.memory sort value (has IsPointerSort d.1) h)
-    (λ at. Cases.inner_cased world.memory whole before count at)))
+    Cases.at_place_cased p op.access world.memory _ (Cases.followed_cased whole value (inner_of world.memory whole.cells before count) (pointer_value world.memory sort value (has IsPointerSort d.1) h)
+    (λ at. Cases.inner_cased world.memory whole.cells before count at)))
 taken_work p sorts sees op world (work.Assign form) own done plain well bound g d e all =
     by_two p sorts op world.memory done (λ vs. work_of p world (work.Assign form) op.access vs) (e ∙ d.1.0.0) all (λ left right one other l r a b.
     Cases.assigned_cased p world.memory form left right (object_form form d.0) (place_value world.memory one left (a IsPlaceSort d.1.0.1) l)

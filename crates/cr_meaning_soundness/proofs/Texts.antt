@@ -21,7 +21,7 @@ use Rattle.cr_memory.specs.Access.{is_null_or_end, is_unset, holds_ended, cell_a
 use Rattle.cr_meaning.specs.World.{Program, World}
 use Rattle.cr_meaning.specs.Values.{misfits, as_pointer}
 use Rattle.cr_meaning.specs.Work.{is_nothing, integer}
-use Rattle.cr_meaning.specs.Library.{byte_of, following, text_after, text_by, room_from, text_at, promoted, text_shown, integer_shown, piece_shown, joined_to, printed, put_out, formatted, pieces_of, printf_of, putchar_of, exit_of}
+use Rattle.cr_meaning.specs.Library.{char, byte_of, following, text_after, text_by, room_from, text_at, promoted, text_shown, integer_shown, piece_shown, joined_to, printed, put_out, formatted, pieces_of, printf_of, putchar_of, exit_of}
 use Rattle.cr_meaning.specs.declared.value.Value.{Value}
 use Rattle.cr_meaning.specs.declared.value.Value.TheVariants.{Nothing, Number, Pointer as Pointing}
 use Rattle.cr_meaning_soundness.specs.Sorts.{IsSound}
@@ -79,7 +79,7 @@ text_by_cased memory (suc most) (At object place low high stride) sound h same e
     cased_then (λ held. Holds memory (scalar.Int Char) held × IsRead memory at held) (load_of memory at (scalar.Int Char)) (text_after (text_by memory most (following at)))
     (load_cased memory at (scalar.Int Char)) (both_ok (Holds memory (scalar.Int Char)) (IsRead memory at) (load_of memory at (scalar.Int Char)) (loaded_holds memory at (scalar.Int Char) sound h) (is_read memory at))
     (λ held f. let below = leb-false high place f.1.1 in
-    let one : stride ≡ 1 = same in
+    let one : stride.cells ≡ 1 = same in
     let W : ℕ → Type 0 = λ n. (suc place - low) % n ≡ 0 in
     let V : ℕ → Type 0 = λ n. (high - suc place) % n ≡ 0 in
     let from = h.low_before in
@@ -99,11 +99,11 @@ enough_room Null = omega arith
 enough_room (At object place low high stride) = omega arith
 
 text_cased : (memory : Memory) (at : Pointer) → IsSound memory → IsPointer memory at → Cased (text_at memory at)
-text_cased memory at sound h = by_stride (misfits 1 at) refl
+text_cased memory at sound h = by_stride (misfits char at) refl
   where
-    by_stride : (b : Bool) → misfits 1 at ≡ b → Cased (let r : Result (List ℕ) Trap = if b then Err (Left 5) else text_by memory (room_from at) at in r)
+    by_stride : (b : Bool) → misfits char at ≡ b → Cased (let r : Result (List ℕ) Trap = if b then Err (Left 5) else text_by memory (room_from at) at in r)
     by_stride true e = tt
-    by_stride false e = text_by_cased memory (room_from at) at sound h (fitting 1 at e) (enough_room at)
+    by_stride false e = text_by_cased memory (room_from at) at sound h (fitting char at e) (enough_room at)
 
 -- ---- `printf`
 
@@ -164,7 +164,7 @@ pub printf_cased : (p : Program) (world : World) (texts : List Bool) (format : V
     → AreGivenArguments world.memory given → Cased (printf_of p world texts (format ∷ given))
 printf_cased p world texts format given sound s f h =
     cased_then (IsPointer world.memory) (as_pointer format) _ (as_pointer_cased format s) (as_pointer_is world.memory format f)
-    (λ at is. cased_if (misfits 1 at) (Left 5) _ tt (cased_if (list_any is_nothing given) (Undefined 15) _ tt
+    (λ at is. cased_if (misfits char at) (Left 5) _ tt (cased_if (list_any is_nothing given) (Undefined 15) _ tt
     (cased_all (text_at world.memory at) _ (text_cased world.memory at sound is) (λ bytes. formatted_cased p world (zip texts given) (pieces_of bytes) sound (zipped world.memory texts given h)))))
 
 pub putchar_cased : (p : Program) (world : World) (value : Value) → IsNumberValue value → Cased (putchar_of p world (value ∷ []))

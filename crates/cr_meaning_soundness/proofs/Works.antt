@@ -8,6 +8,7 @@ use Rattle.cr_ints.specs.declared.kind.IntKind.TheVariants.{Int as IntegerKind, 
 use Rattle.cr_ints.specs.IntKind.{Represents}
 use Rattle.cr_ints.specs.Conversions.{convert_of}
 use Rattle.cr_ints.proofs.Congruence.{convert_of-represents}
+use Rattle.cr_memory.specs.declared.value.Element.{Element}
 use Rattle.cr_memory.specs.declared.value.Pointer.{Pointer}
 use Rattle.cr_memory.specs.declared.value.Pointer.TheVariants.{Null, At}
 use Rattle.cr_memory.specs.declared.value.Scalar.{Scalar}
@@ -45,7 +46,7 @@ use Rattle.cr_meaning_soundness.specs.Rules.{Uses, GivesObject, Casts, Passes, H
 use Rattle.cr_meaning_soundness.proofs.Cells.{all_hold_later, hold_taken, hold_dropped, Written, some_there, loaded_holds, read_hold, saved, put}
 use Rattle.cr_meaning_soundness.proofs.Numbers.{zero_or_one, truth_fits, computed_fits, signed_fits}
 use Rattle.cr_meaning_soundness.proofs.Later.{chars_later}
-use Rattle.cr_meaning_soundness.proofs.Pointers.{literal_fits, ok_then, ok_unless, ok_any, IsPlace, if_fits_ok, either_fits, pointed, whole_fits, element_fits, reach_then, inner_fits}
+use Rattle.cr_meaning_soundness.proofs.Pointers.{literal_fits, ok_then, ok_unless, ok_any, IsPlace, if_holds_ok, if_fits_ok, either_fits, pointed, whole_fits, element_fits, reach_then, inner_fits}
 
 -- ---- what fitted before
 
@@ -104,50 +105,50 @@ used_fits : (p : Program) (a : Access) (memory : Memory) (at : Pointer) (count :
 used_fits p access.Unused memory at count own sound h u =
     let F : Sort → Type 0 = λ s. Fits memory s (Place at) in record { fits = subst F (sym u) h; written = unwritten memory sound }
 used_fits p (access.Scalar kind volatile) memory at count own sound h u =
-    if_fits_ok (Does memory own) 1 at _ (λ same. ok_then (Holds memory kind) (Does memory own) (load_of memory at kind) _ (loaded_holds memory at kind sound h.0)
+    if_holds_ok (Does memory own) 1 at _ (λ same. ok_then (Holds memory kind) (Does memory own) (load_of memory at kind) _ (loaded_holds memory at kind sound h.0)
     (λ held holds. let F : Sort → Type 0 = λ s. Fits memory s (value_in kind held) in
     record { fits = subst F (sym u) (value_in_fits memory kind held holds); written = unwritten memory sound }))
 used_fits p (access.Cells row) memory at count own sound h u =
-    if_fits_ok (Does memory own) (length (p.kinds row)) at _ (λ same. ok_then (AllHold memory (p.kinds row)) (Does memory own) (cells_of memory at (p.kinds row)) _
+    if_holds_ok (Does memory own) (length (p.kinds row)) at _ (λ same. ok_then (AllHold memory (p.kinds row)) (Does memory own) (cells_of memory at (p.kinds row)) _
     (read_hold memory at (p.kinds row) sound h.0 same)
     (λ held hold. let F : Sort → Type 0 = λ s. Fits memory s (Cells held) in record { fits = subst F (sym u) hold; written = unwritten memory sound }))
 used_fits p (access.Array stride whole) memory at count own sound h u =
     let F : Sort → Type 0 = λ s. Fits memory s (Pointing (first_element at stride)) in
     let rest = reach_then (Does memory own) (has_ended memory at) (is_null_or_end at) (λ _. plainly memory (Pointing (first_element at stride)))
     (λ alive inside. record { fits = subst F (sym u.0) (element_fits memory at count stride h u.1 u.2 inside); written = unwritten memory sound }) in
-    ok_either (Does memory own) (whole == 0) _ _ rest (if_fits_ok (Does memory own) whole at _ (λ same. rest))
+    ok_either (Does memory own) (whole == 0) _ _ rest (if_holds_ok (Does memory own) whole at _ (λ same. rest))
 
 at_place_fits : (p : Program) (a : Access) (memory : Memory) (result : Result Pointer Trap) (count : ℕ) (own : Sort) → IsSound memory → IfOk result (IsPlace memory count)
     → Uses p a count own → IfOk (at_place p a memory result) (Does memory own)
 at_place_fits p a memory result count own sound h u =
     ok_then (IsPlace memory count) (Does memory own) result (used p a memory) h (λ at here. used_fits p a memory at count own sound here u)
 
-place_by : (p : Program) (memory : Memory) (node declared object : ℕ) (rest : List Binding) (Q : Pointer → Type 0) (b : Bool) → IsEntered p memory declared object
-    → ((object : ℕ) → IsEntered p memory node object → Q (whole_place memory object))
-    → IfOk (place_of memory (object_for rest node)) Q → (declared == node) ≡ b
-    → IfOk (place_of memory (if b then Some object else object_for rest node)) Q
-place_by p memory node declared object rest Q true h f other e =
+place_by : (p : Program) (memory : Memory) (node declared object of : ℕ) (rest : List Binding) (Q : Pointer → Type 0) (b : Bool) → IsEntered p memory declared object
+    → ((object : ℕ) → IsEntered p memory node object → Q (whole_place memory object of))
+    → IfOk (place_of memory (object_for rest node) of) Q → (declared == node) ≡ b
+    → IfOk (place_of memory (if b then Some object else object_for rest node) of) Q
+place_by p memory node declared object of rest Q true h f other e =
     let E : ℕ → Type 0 = λ n. IsEntered p memory n object in f object (subst E (eqb-true declared node e) h)
-place_by p memory node declared object rest Q false h f other e = other
+place_by p memory node declared object of rest Q false h f other e = other
 
 -- the object of a node, if it has one
-entered_place : (p : Program) (memory : Memory) (node : ℕ) (bindings : List Binding) (Q : Pointer → Type 0) → AreEntered p memory bindings
-    → ((object : ℕ) → IsEntered p memory node object → Q (whole_place memory object)) → IfOk (place_of memory (object_for bindings node)) Q
-entered_place p memory node [] Q h f = tt
-entered_place p memory node (mark ∷ rest) Q h f = entered_place p memory node rest Q h f
-entered_place p memory node (bound declared object ∷ rest) Q h f =
-    place_by p memory node declared object rest Q (declared == node) h.0 f (entered_place p memory node rest Q h.1 f) refl
+entered_place : (p : Program) (memory : Memory) (node of : ℕ) (bindings : List Binding) (Q : Pointer → Type 0) → AreEntered p memory bindings
+    → ((object : ℕ) → IsEntered p memory node object → Q (whole_place memory object of)) → IfOk (place_of memory (object_for bindings node) of) Q
+entered_place p memory node of [] Q h f = tt
+entered_place p memory node of (mark ∷ rest) Q h f = entered_place p memory node of rest Q h f
+entered_place p memory node of (bound declared object ∷ rest) Q h f =
+    place_by p memory node declared object of rest Q (declared == node) h.0 f (entered_place p memory node of rest Q h.1 f) refl
 
-object_fits : (p : Program) (a : Access) (memory : Memory) (node : ℕ) (bindings : List Binding) (own : Sort) → IsSound memory → AreEntered p memory bindings → 1 ≤ length (p.shape node)
-    → GivesObject p a node own → IfOk (at_place p a memory (place_of memory (object_for bindings node))) (Does memory own)
-object_fits p a memory node bindings chars sound entered one g =
-    let A : Access → Type 0 = λ x. IfOk (at_place p x memory (place_of memory (object_for bindings node))) (Does memory chars) in
+object_fits : (p : Program) (a : Access) (memory : Memory) (node of : ℕ) (bindings : List Binding) (own : Sort) → IsSound memory → AreEntered p memory bindings → 1 ≤ length (p.shape node)
+    → GivesObject p a node own → IfOk (at_place p a memory (place_of memory (object_for bindings node) of)) (Does memory own)
+object_fits p a memory node of bindings chars sound entered one g =
+    let A : Access → Type 0 = λ x. IfOk (at_place p x memory (place_of memory (object_for bindings node) of)) (Does memory chars) in
     subst A (sym g.0) (ok_then (λ at. Fits memory chars (Place at)) (Does memory chars) _ _
-    (entered_place p memory node bindings (λ at. Fits memory chars (Place at)) entered (λ object there. literal_fits p memory node object sound there one g.1))
+    (entered_place p memory node of bindings (λ at. Fits memory chars (Place at)) entered (λ object there. literal_fits p memory node object of sound there one g.1))
     (λ at fits. record { fits = fits; written = unwritten memory sound }))
-object_fits p a memory node bindings own sound entered one g =
+object_fits p a memory node of bindings own sound entered one g =
     at_place_fits p a memory _ (length (p.shape node)) own sound
-    (entered_place p memory node bindings (IsPlace memory (length (p.shape node))) entered (λ object there. whole_fits p memory node object sound there one)) g
+    (entered_place p memory node of bindings (IsPlace memory (length (p.shape node))) entered (λ object there. whole_fits p memory node object of sound there one)) g
 
 passed_fits : (p : Program) (a : Access) (memory : Memory) (sort : Sort) (value : Value) (own : Sort) → IsSound memory → Passes p a own sort → Fits memory sort value
     → IfOk (passed p a memory value) (Does memory own)
@@ -168,16 +169,16 @@ taken_fits p memory (form.Pointer to) (cell.Pointer at ∷ []) h = ok_unless (Fi
 taken_fits p memory form (cell.Unset ∷ []) h = tt
 taken_fits p memory form held h = tt
 
-member_of_fits : (p : Program) (a : Access) (memory : Memory) (whole before count : ℕ) (form : Form) (sort : Sort) (value : Value) (own : Sort) → IsSound memory
-    → HasMember p a whole before count form own sort → Fits memory sort value → IfOk (member_of p a memory whole before count form value) (Does memory own)
+member_of_fits : (p : Program) (a : Access) (memory : Memory) (whole before : ℕ) (count : Element) (form : Form) (sort : Sort) (value : Value) (own : Sort) → IsSound memory
+    → HasMember p a whole before count.cells form own sort → Fits memory sort value → IfOk (member_of p a memory whole before count form value) (Does memory own)
 member_of_fits p a memory whole before count form (place size) (Place at) own sound m h =
-    at_place_fits p a memory (inner_of memory whole before count at) count own sound (inner_fits memory whole before count at m.0 h.0) m.1
+    at_place_fits p a memory (inner_of memory whole before count at) count.cells own sound (inner_fits memory whole before count at m.0 h.0) m.1
 member_of_fits p a memory whole before count form chars (Place at) own sound m h = absurd m
 member_of_fits p a memory whole before count form sort (Place at) own sound m h = absurd h
 member_of_fits p a memory whole before count form (cells kinds) (Cells held) own sound m h =
-    let K : List Scalar → Type 0 = λ ks. AllHold memory ks (take count (drop before held)) in
+    let K : List Scalar → Type 0 = λ ks. AllHold memory ks (take count.cells (drop before held)) in
     giving_as memory own (sort_of p form) _ m.own_is sound
-    (taken_fits p memory form (take count (drop before held)) (subst K m.among (hold_taken memory _ _ count (hold_dropped memory kinds held before h))))
+    (taken_fits p memory form (take count.cells (drop before held)) (subst K m.among (hold_taken memory _ _ count.cells (hold_dropped memory kinds held before h))))
 member_of_fits p a memory whole before count form sort (Cells held) own sound m h = absurd h
 member_of_fits p a memory whole before count form sort value own sound m h = tt
 
@@ -256,7 +257,7 @@ cast_fits p memory (form.Cells row) sort value c h = converted_fits p memory (fo
 changed_fits : (memory : Memory) (change : Change) (one other : Sort) (left right : Value) → Fits memory one left → Fits memory other right
     → IfOk (changed memory change left right) (Fits memory (changed_sort change))
 changed_fits memory (Move back count) one other left right l r =
-    ok_then (IsPlace memory count) (Fits memory pointer) (moved_either memory back count left right) pointing (either_fits memory back count one other left right l r) (λ at h. h.0)
+    ok_then (IsPlace memory count.cells) (Fits memory pointer) (moved_either memory back count left right) pointing (either_fits memory back count one other left right l r) (λ at h. h.0)
 changed_fits memory (Arithmetic op kind) one other (Number k left) (Number m right) l r = computed_fits memory op kind left right
 changed_fits memory (Arithmetic op kind) one other left Nothing l r = tt
 changed_fits memory (Arithmetic op kind) one other left right l r = tt
@@ -289,13 +290,13 @@ comparison_fits memory left right f =
     ok_then (λ _. Unit {0}) (Fits memory (number IntegerKind)) (integer left) _ (ok_any (integer left)) (λ l _. holding_fits memory (integer right) (f l))
 
 -- the subscripts of one array differ by a number of `long`
-small_place : (memory : Memory) (object cell low high stride : ℕ) → IsSound memory → IsPointer memory (At object cell low high stride) → has_ended memory (At object cell low high stride) ≡ false
-    → (cell - low) / stride < 2 ^ 63
+small_place : (memory : Memory) (object cell low high : ℕ) (stride : Element) → IsSound memory → IsPointer memory (At object cell low high stride) → has_ended memory (At object cell low high stride) ≡ false
+    → (cell - low) / stride.cells < 2 ^ 63
 small_place memory object cell low high stride sound h alive =
     let o = some_there (live_object memory object) alive in
     let w = h.within o.0 o.1 in
     let s = sound.small object o.0 o.1 in
-    let d = div-le_self (cell - low) stride in
+    let d = div-le_self (cell - low) stride.cells in
     let b = h.high_after in
     omega arith
 
@@ -308,7 +309,7 @@ difference_fits memory Null Null sound l r a b = tt
 difference_fits memory Null (At object cell low high stride) sound l r a b = tt
 difference_fits memory (At object cell low high stride) Null sound l r a b = tt
 difference_fits memory (At object cell low high stride) (At object' cell' low' high' stride') sound l r a b =
-    ok_either (Represents LongKind) (object == object' && (low == low' && high == high')) (Ok (pos ((cell - low) / stride) -ℤ pos ((cell' - low') / stride'))) (Err (Undefined DIFFERENT_ARRAYS))
+    ok_either (Represents LongKind) (object == object' && (low == low' && high == high')) (Ok (pos ((cell - low) / stride.cells) -ℤ pos ((cell' - low') / stride'.cells))) (Err (Undefined DIFFERENT_ARRAYS))
     (between _ _ (small_place memory object cell low high stride sound l a) (small_place memory object' cell' low' high' stride' sound r b)) tt
 
 distance_fits : (memory : Memory) (left right : Pointer) → IsSound memory → IsPointer memory left → IsPointer memory right → IfOk (distance memory left right) (Fits memory (number LongKind))
@@ -318,7 +319,7 @@ distance_fits memory left right sound l r =
     (λ e. let n = neither _ _ e in difference_fits memory left right sound l r n.0 n.1))
     (λ by h. (refl, h))
 
-both_fit_ok : {A : Type 0} (Q : A → Type 0) (count : ℕ) (left right : Value) (rest : Result A Trap) → IfOk rest Q → IfOk (if_both_fit count left right rest) Q
+both_fit_ok : {A : Type 0} (Q : A → Type 0) (count : Element) (left right : Value) (rest : Result A Trap) → IfOk rest Q → IfOk (if_both_fit count left right rest) Q
 both_fit_ok Q count left right rest h = ok_unless Q (misfit_value count left) (Left 5) _ (λ e. ok_unless Q (misfit_value count right) (Left 5) rest (λ e. h))
 
 pub logical_fits : (memory : Memory) (f : Bool → Bool → Bool) (values : List Value) → IfOk (logical memory f values) (Fits memory (number IntegerKind))
@@ -333,8 +334,8 @@ address_fits : (memory : Memory) (sort : Sort) (value : Value) → Fits memory s
 address_fits memory sort (Place at) h = placed memory sort at h
 address_fits memory sort value h = tt
 
-followed_fits : (memory : Memory) (Q : Pointer → Type 0) (count : ℕ) (sort : Sort) (value : Value) (f : Pointer → Result Pointer Trap) → Fits memory sort value
-    → ((at : Pointer) → IsPointer memory at → HasStride at count → IfOk (f at) Q) → IfOk (followed count value f) Q
+followed_fits : (memory : Memory) (Q : Pointer → Type 0) (count : Element) (sort : Sort) (value : Value) (f : Pointer → Result Pointer Trap) → Fits memory sort value
+    → ((at : Pointer) → IsPointer memory at → HasStride at count.cells → IfOk (f at) Q) → IfOk (followed count value f) Q
 followed_fits memory Q count sort (Pointing at) f h k = if_fits_ok Q count at (f at) (k at (pointed memory sort at h))
 followed_fits memory Q count sort value f h k = tt
 
@@ -350,7 +351,7 @@ stored_fits p memory form at new sound h same v = tt
 assigned_fits : (p : Program) (memory : Memory) (form : Form) (one other : Sort) (left right : Value) → IsSound memory → Converts p form other → Fits memory one left → Fits memory other right
     → IfOk (assigned p memory form left right) (Does memory (sort_of p form))
 assigned_fits p memory form one other (Place at) right sound c l r =
-    if_fits_ok (Does memory (sort_of p form)) (cells_in p form) at _
+    if_holds_ok (Does memory (sort_of p form)) (cells_in p form) at _
     (λ same. ok_then (Fits memory (sort_of p form)) (Does memory (sort_of p form)) (converted memory form right) _ (converted_fits p memory form other right c r)
     (λ new fits. ok_then (Written memory) (Does memory (sort_of p form)) (stored p memory form at new) (did_assign p form at new) (stored_fits p memory form at new sound (placed memory one at l) same fits)
     (λ after written. record { fits = fits_later memory after (sort_of p form) new written.continues fits; written = written })))
@@ -373,7 +374,7 @@ updated_at : (p : Program) (memory : Memory) (change : Change) (form : Form) (vo
     → IfOk (updated p memory change form volatile post (Place at) right) (Does memory (sort_of p form))
 updated_at p memory change form volatile post other at right sound c one h r =
     let own = sort_of p form in
-    if_fits_ok (Does memory own) 1 at _
+    if_holds_ok (Does memory own) 1 at _
     (λ same. ok_then (Fits memory own) (Does memory own) (loaded memory form at) _ (loaded_fits p memory form at sound h)
     (λ old old_fits. ok_then (Fits memory (changed_sort change)) (Does memory own) (changed memory change old right) _ (changed_fits memory change own other old right old_fits r)
     (λ result result_fits. ok_then (Fits memory own) (Does memory own) (converted memory form result) _ (converted_fits p memory form (changed_sort change) result c result_fits)
@@ -389,8 +390,8 @@ updated_fits p memory change (form.Number kind) volatile post one other (Place a
     updated_at p memory change (form.Number kind) volatile post other at right sound tt (λ same. same) (placed memory one at l) r
 updated_fits p memory change (form.Pointer to) volatile post one other (Place at) right sound l r =
     updated_at p memory change (form.Pointer to) volatile post other at right sound tt (λ same. same) (placed memory one at l) r
-updated_fits p memory change form.Void volatile post one other (Place at) right sound l r = if_fits_ok (Does memory void) 1 at _ (λ same. tt)
-updated_fits p memory change (form.Cells row) volatile post one other (Place at) right sound l r = if_fits_ok (Does memory (cells (p.kinds row))) 1 at _ (λ same. tt)
+updated_fits p memory change form.Void volatile post one other (Place at) right sound l r = if_holds_ok (Does memory void) 1 at _ (λ same. tt)
+updated_fits p memory change (form.Cells row) volatile post one other (Place at) right sound l r = if_holds_ok (Does memory (cells (p.kinds row))) 1 at _ (λ same. tt)
 updated_fits p memory change form volatile post one other left right sound l r = tt
 
 -- ---- own work, by the number of operands
@@ -402,8 +403,8 @@ pub alone_fits : (p : Program) (sorts : ℕ → Option Sort) (op : Op) (world : 
     → IfOk (alone p world w op.access) (Does world.memory own)
 alone_fits p sorts op world (work.Constant kind value) own well g =
     let F : Sort → Type 0 = λ s. Fits world.memory s (Number kind value) in record { fits = subst F (sym g.0) (refl, g.1); written = unwritten world.memory well.sound }
-alone_fits p sorts op world (work.Object node) own well g =
-    object_fits p op.access world.memory node world.bindings own well.sound well.entered g.0 g.1
+alone_fits p sorts op world (work.Object node of) own well g =
+    object_fits p op.access world.memory node of world.bindings own well.sound well.entered g.0 g.1
 alone_fits p sorts op world other own well g = tt
 
 pub one_fits : (p : Program) (sorts : ℕ → Option Sort) (op : Op) (world : World) (w : Work) (value : Value) (sort own : Sort) → IsWellFormed p world → Computes p sorts op w own
@@ -418,14 +419,14 @@ one_fits p sorts op world (work.Cast form) value sort own well g given h =
     giving_as world.memory own (sort_of p form) _ g.0 well.sound (cast_fits p world.memory form sort value (given (Casts p form) g.1) h)
 one_fits p sorts op world work.AddressOf value sort own well g given h = giving_as world.memory own pointer _ g well.sound (address_fits world.memory sort value h)
 one_fits p sorts op world (work.Dereference count) value sort own well g given h =
-    at_place_fits p op.access world.memory _ count own well.sound
-    (followed_fits world.memory (IsPlace world.memory count) count sort value _ h
-    (λ at fits same. ok_unless (IsPlace world.memory count) (has_ended world.memory at) (Undefined 10) _ (λ e. (fits, same)))) g
+    at_place_fits p op.access world.memory _ count.cells own well.sound
+    (followed_fits world.memory (IsPlace world.memory count.cells) count sort value _ h
+    (λ at fits same. ok_unless (IsPlace world.memory count.cells) (has_ended world.memory at) (Undefined 10) _ (λ e. (fits, same)))) g
 one_fits p sorts op world (work.Member whole before count form) value sort own well g given h =
-    member_of_fits p op.access world.memory whole before count form sort value own well.sound (given (HasMember p op.access whole before count form own) g) h
+    member_of_fits p op.access world.memory whole before count form sort value own well.sound (given (HasMember p op.access whole before count.cells form own) g) h
 one_fits p sorts op world (work.PointerMember whole before count) value sort own well g given h =
-    at_place_fits p op.access world.memory _ count own well.sound
-    (followed_fits world.memory (IsPlace world.memory count) whole sort value _ h (λ at fits same. inner_fits world.memory whole before count at g.0 fits)) g.1
+    at_place_fits p op.access world.memory _ count.cells own well.sound
+    (followed_fits world.memory (IsPlace world.memory count.cells) whole sort value _ h (λ at fits same. inner_fits world.memory whole.cells before count at g.0 fits)) g.1
 one_fits p sorts op world (work.Update change form volatile post) value sort own well g given h =
     as_sort world.memory own (sort_of p form) _ g
     (updated_fits p world.memory change form volatile post sort (number IntegerKind) value (Number IntegerKind (pos 1)) well.sound h (refl, zero_or_one IntegerKind true))
@@ -448,7 +449,7 @@ two_fits p sorts op world (work.Distance count) left right one other own well g 
     (both_fit_ok (Fits world.memory (number LongKind)) count left right _
     (with_pointers_ok world.memory (Fits world.memory (number LongKind)) one other left right (distance world.memory) l r (λ a b ha hb. distance_fits world.memory a b well.sound ha hb)))
 two_fits p sorts op world (work.Subscript count) left right one other own well g given l r =
-    at_place_fits p op.access world.memory _ count own well.sound (either_fits world.memory false count one other left right l r) g
+    at_place_fits p op.access world.memory _ count.cells own well.sound (either_fits world.memory false count one other left right l r) g
 two_fits p sorts op world (work.Assign form) left right one other own well g given l r =
     as_sort world.memory own (sort_of p form) _ g.0 (assigned_fits p world.memory form one other left right well.sound (given (Converts p form) g.1) l r)
 two_fits p sorts op world (work.Update change form volatile post) left right one other own well g given l r =

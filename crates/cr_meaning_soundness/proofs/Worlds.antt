@@ -38,7 +38,7 @@ pushed objects object live n e (inr h) (inl same) = inr (some_is_one (sym (get_o
 pushed objects object live n e (inr h) (inr other) =
     let past = get_or_past (objects ++ Some object ∷ []) n None (omega (arith, length_push objects (Some object), other, h)) in absurd (cc (past, e))
 
-is_pushed : (objects : List (Option Object)) (object live : Object) (n : ℕ) → get_or (objects ++ Some object ∷ []) n None ≡ Some live → (get_or objects n None ≡ Some live) ⊎ (object ≡ live)
+pub is_pushed : (objects : List (Option Object)) (object live : Object) (n : ℕ) → get_or (objects ++ Some object ∷ []) n None ≡ Some live → (get_or objects n None ≡ Some live) ⊎ (object ≡ live)
 is_pushed objects object live n e = pushed objects object live n e (cases_lt n (length objects)) (cases_eq n (length objects))
 
 pub with_sound : (memory : Memory) (object : Object) → IsSound memory → AllHold memory (kinds_of object.shape) object.cells → length object.cells < 2 ^ 63

@@ -99,7 +99,7 @@ TakeLines sorts op k (line ∷ lines) = Has sorts op k (IsInitial line.form) × 
 
 abbrev pub Demands : (ℕ → Option Sort) → (ℕ → Bool) → Op → Work → Type 0
 Demands sorts sees op (work.Constant kind value) = length op.parts ≡ 0
-Demands sorts sees op (work.Object declared) = (length op.parts ≡ 0) × (sees declared ≡ true)
+Demands sorts sees op (work.Object declared of) = (length op.parts ≡ 0) × (sees declared ≡ true)
 Demands sorts sees op work.Pass = length op.parts ≡ 1
 Demands sorts sees op work.Comma = length op.parts ≡ 2
 Demands sorts sees op (work.Conditional form) = (((length op.parts ≡ 3) × Has sorts op 0 IsScalar) × Has sorts op 1 (IsConverted form)) × Has sorts op 2 (IsConverted form)

@@ -27,7 +27,7 @@ abbrev pub Uses : Program → Access → ℕ → Sort → Type 0
 Uses p access.Unused count own = own ≡ place count
 Uses p (access.Scalar kind volatile) count own = own ≡ sort_of_scalar kind
 Uses p (access.Cells row) count own = own ≡ cells (p.kinds row)
-Uses p (access.Array stride whole) count own = (own ≡ pointer) × (1 ≤ stride) × (count % stride ≡ 0)
+Uses p (access.Array element whole) count own = (own ≡ pointer) × (1 ≤ element.cells) × (count % element.cells ≡ 0)
 
 -- a cast to void drops any value (6.3.2.2)
 abbrev pub Casts : Program → Form → Sort → Type 0
@@ -92,7 +92,7 @@ CallGives p sorts op (Function parameters rest is_main) own = IsFunctionCall p s
 -- what an expression gives, by its work and its operands
 abbrev pub Computes : Program → (ℕ → Option Sort) → Op → Work → Sort → Type 0
 Computes p sorts op (work.Constant kind value) own = (own ≡ number kind) × Represents kind value
-Computes p sorts op (work.Object node) own = (1 ≤ length (p.shape node)) × GivesObject p op.access node own
+Computes p sorts op (work.Object node of) own = (1 ≤ length (p.shape node)) × GivesObject p op.access node own
 Computes p sorts op work.Pass own = Has sorts op 0 (Passes p op.access own)
 Computes p sorts op work.Comma own = Has sorts op 1 (λ sort. sort ≡ own)
 Computes p sorts op (work.Conditional form) own = ((own ≡ sort_of p form) × Has sorts op 1 (Converts p form)) × Has sorts op 2 (Converts p form)
@@ -101,15 +101,15 @@ Computes p sorts op work.LogicalOr own = own ≡ number IntegerKind
 Computes p sorts op (work.Binary change) own = own ≡ changed_sort change
 Computes p sorts op (work.Compare relation kind) own = own ≡ number IntegerKind
 Computes p sorts op (work.ComparePointers relation) own = own ≡ number IntegerKind
-Computes p sorts op (work.Distance count) own = own ≡ number LongKind
+Computes p sorts op (work.Distance element) own = own ≡ number LongKind
 Computes p sorts op (work.Unary sign kind) own = own ≡ number kind
 Computes p sorts op work.Not own = own ≡ number IntegerKind
 Computes p sorts op (work.Cast form) own = (own ≡ sort_of p form) × Has sorts op 0 (Casts p form)
 Computes p sorts op work.AddressOf own = own ≡ pointer
-Computes p sorts op (work.Dereference count) own = Uses p op.access count own
-Computes p sorts op (work.Subscript count) own = Uses p op.access count own
-Computes p sorts op (work.Member whole before count form) own = Has sorts op 0 (HasMember p op.access whole before count form own)
-Computes p sorts op (work.PointerMember whole before count) own = IsWithin whole before count × Uses p op.access count own
+Computes p sorts op (work.Dereference element) own = Uses p op.access element.cells own
+Computes p sorts op (work.Subscript element) own = Uses p op.access element.cells own
+Computes p sorts op (work.Member whole before member form) own = Has sorts op 0 (HasMember p op.access whole before member.cells form own)
+Computes p sorts op (work.PointerMember whole before member) own = IsWithin whole.cells before member.cells × Uses p op.access member.cells own
 Computes p sorts op (work.Assign form) own = (own ≡ sort_of p form) × Has sorts op 1 (Converts p form)
 Computes p sorts op (work.Update change form volatile post) own = own ≡ sort_of p form
 Computes p sorts op (work.Call callee) own = CallGives p sorts op callee own

@@ -4,6 +4,7 @@ use Rattle.std.specs.Prelude.{int_le, unsigned_abs}
 use Rattle.std.proofs.Math.Nat.{add-mul-mod_self_right}
 use Rattle.std.proofs.lemmas.Bool.{leb-true}
 use Rattle.std.proofs.lemmas.Int.{ints}
+use Rattle.cr_memory.specs.declared.value.Element.{Element}
 use Rattle.cr_memory.specs.declared.value.Pointer.{Pointer}
 use Rattle.cr_memory.specs.declared.value.Pointer.TheVariants.{Null, At}
 use Rattle.cr_memory.specs.declared.value.Scalar.{Scalar}
@@ -107,16 +108,16 @@ moved_place spans object cell low high stride n (negsuc k) h e below above = rec
   whole_after = same_rest (high - n) (high - cell) (suc k) stride (omega (arith, ints, e, h.high_after)) ∙ h.whole_after;
 }
 
-moved_by_test : (spans : List Span) (object cell low high stride n : ℕ) (by : ℤ) (a b : Bool) → PlaceIn spans object cell low high stride
-    → pos n ≡ pos cell +ℤ by *ℤ pos stride → nat_le low n ≡ a → nat_le n high ≡ b
+moved_by_test : (spans : List Span) (object cell low high : ℕ) (stride : Element) (n : ℕ) (by : ℤ) (a b : Bool) → PlaceIn spans object cell low high stride.cells
+    → pos n ≡ pos cell +ℤ by *ℤ pos stride.cells → nat_le low n ≡ a → nat_le n high ≡ b
     → IfOk (if a && b then Ok (At object n low high stride) else Err (Undefined SUM_OUTSIDE)) (PointerIn spans)
 moved_by_test spans object cell low high stride n by true true h e below above =
-    moved_place spans object cell low high stride n by h e (leb-true low n below) (leb-true n high above)
+    moved_place spans object cell low high stride.cells n by h e (leb-true low n below) (leb-true n high above)
 moved_by_test spans object cell low high stride n by true false h e below above = tt
 moved_by_test spans object cell low high stride n by false b h e below above = tt
 
-moved_to : (spans : List Span) (object cell low high stride : ℕ) (by z : ℤ) → PlaceIn spans object cell low high stride
-    → z ≡ pos cell +ℤ by *ℤ pos stride
+moved_to : (spans : List Span) (object cell low high : ℕ) (stride : Element) (by z : ℤ) → PlaceIn spans object cell low high stride.cells
+    → z ≡ pos cell +ℤ by *ℤ pos stride.cells
     → IfOk (if int_le (pos low) z && int_le z (pos high) then Ok (At object (unsigned_abs z) low high stride) else Err (Undefined SUM_OUTSIDE)) (PointerIn spans)
 moved_to spans object cell low high stride by (pos n) h e = moved_by_test spans object cell low high stride n by _ _ h e refl refl
 moved_to spans object cell low high stride by (negsuc n) h e = tt

@@ -1,6 +1,7 @@
 -- Objects that continue, and the pointers to them.
 use Rattle.std.proofs.Common.{◌≡◌, ℕ, zero, suc, ◌+◌, ◌-◌, ◌%◌, ◌<◌, ◌≤◌, true, false, is_none, is_some, ◌⊎◌, inl, inr, Option, Some, None, List, [], ◌∷◌, ◌++◌, length, get_or, refl, sym, ap, ◌∙◌, arith, length-set, get_or-set_other}
 use Rattle.std.proofs.lemmas.List.{length-append, length-map}
+use Rattle.cr_memory.specs.declared.value.Element.{Element}
 use Rattle.cr_memory.specs.declared.value.Pointer.{Pointer}
 use Rattle.cr_memory.specs.declared.value.Pointer.TheVariants.{Null, At}
 use Rattle.cr_memory.specs.declared.value.Scalar.{Scalar}
@@ -133,23 +134,23 @@ lifetimes-last old new (At object cell low high stride) c h = opposite _ _ (c.ob
 zero-mod : (n : ℕ) → 0 % n ≡ 0
 zero-mod n = omega arith
 
-pub whole-pointed : (memory : Memory) (object stride : ℕ) (live : Object) → live_object memory object ≡ Some live
-    → 1 ≤ stride → length live.cells % stride ≡ 0 → IsPointer memory (At object 0 0 (length live.cells) stride)
+pub whole-pointed : (memory : Memory) (object : ℕ) (stride : Element) (live : Object) → live_object memory object ≡ Some live
+    → 1 ≤ stride.cells → length live.cells % stride.cells ≡ 0 → IsPointer memory (At object 0 0 (length live.cells) stride)
 whole-pointed memory object stride live e one whole = record {
   entered = entered_if_some memory.objects object live e;
   stride_above = one;
   low_before = omega arith;
   high_after = omega arith;
-  whole_before = zero-mod stride;
-  whole_after = ap (λ n. n % stride) (omega arith) ∙ whole;
+  whole_before = zero-mod stride.cells;
+  whole_after = ap (λ n. n % stride.cells) (omega arith) ∙ whole;
   within = λ now f. let same : live ≡ now = cc (e, f) in omega (arith, ap (λ o. length o.cells) same);
 }
 
-pub part-pointed : (memory : Memory) (object cell low high stride first count within : ℕ) → IsPointer memory (At object cell low high stride)
-    → cell < high → first + count ≤ stride → 1 ≤ within → count % within ≡ 0
+pub part-pointed : (memory : Memory) (object cell low high : ℕ) (stride : Element) (first count : ℕ) (within : Element) → IsPointer memory (At object cell low high stride)
+    → cell < high → first + count ≤ stride.cells → 1 ≤ within.cells → count % within.cells ≡ 0
     → IsPointer memory (At object (cell + first) (cell + first) (cell + first + count) within)
 part-pointed memory object cell low high stride first count within h below fits one whole =
-    let element = stride_fits cell high stride h.stride_above below h.whole_after in
+    let element = stride_fits cell high stride.cells h.stride_above below h.whole_after in
     let before : cell + first - (cell + first) ≡ 0 = omega arith in
     let after : cell + first + count - (cell + first) ≡ count = omega arith in
     record {
@@ -157,7 +158,7 @@ part-pointed memory object cell low high stride first count within h below fits 
       stride_above = one;
       low_before = omega arith;
       high_after = omega arith;
-      whole_before = ap (λ n. n % within) before ∙ zero-mod within;
-      whole_after = ap (λ n. n % within) after ∙ whole;
+      whole_before = ap (λ n. n % within.cells) before ∙ zero-mod within.cells;
+      whole_after = ap (λ n. n % within.cells) after ∙ whole;
       within = λ live now. let w = h.within live now in omega arith;
     }

@@ -185,7 +185,7 @@ reached_run most spans cells shape (At object cell low high stride) size room h 
     let span = span_at spans object in
     let alive = alive_from span.alive live in
     let before : cell < high = leb-false high cell inside in
-    let whole_element = stride_fits cell high stride h.stride_above before h.whole_after in
+    let whole_element = stride_fits cell high stride.cells h.stride_above before h.whole_after in
     let fits = h.within alive in
     let bound = room.within object alive in
     let below : cell + size ≤ span.count = omega arith in

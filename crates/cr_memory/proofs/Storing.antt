@@ -87,7 +87,7 @@ one_before_end (At object cell low high stride) e = let h = leb-false high cell 
 pub element_before_end : (spans : List Span) (at : Pointer) (size : ℕ) → PointerIn spans at → HasStride at size → is_null_or_end at ≡ false → HasRun at size
 element_before_end spans Null size h w e = tt
 element_before_end spans (At object cell low high stride) size h w e =
-    let fits = stride_fits cell high stride h.stride_above (leb-false high cell e) h.whole_after in omega arith
+    let fits = stride_fits cell high stride.cells h.stride_above (leb-false high cell e) h.whole_after in omega arith
 
 pub memory_of-overwritten_at : (most live : ℕ) (spans : List Span) (cells : List Cell) (shape : List (Scalar × Guard)) (at : Pointer) (vs : List Cell)
     → IsStored most live spans cells shape → PointerIn spans at → ended_in spans at ≡ false → is_null_or_end at ≡ false → HasRun at (length vs)

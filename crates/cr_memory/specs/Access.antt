@@ -193,4 +193,4 @@ Reads want (Err (Left number)) = want ≡ Err (Left number)
 -- a pointer that isn't null has elements of so many cells
 abbrev pub HasStride : Pointer → ℕ → Type 0
 HasStride Null count = Unit {0}
-HasStride (At object cell low high stride) count = stride ≡ count
+HasStride (At object cell low high stride) count = stride.cells ≡ count

@@ -60,7 +60,7 @@ pub record PlaceIn (spans : List Span) (object cell low high stride : ℕ) : Typ
 
 abbrev pub PointerIn : List Span → Pointer → Type 0
 PointerIn spans Null = Unit {0}
-PointerIn spans (At object cell low high stride) = PlaceIn spans object cell low high stride
+PointerIn spans (At object cell low high stride) = PlaceIn spans object cell low high stride.cells
 
 -- what a cell of a kind may hold
 abbrev pub HoldsIn : List Span → Scalar → Cell → Type 0
@@ -91,7 +91,7 @@ RunHolds spans shape place (v ∷ vs) = HoldsIn spans (shape_or shape place).0 v
 -- a pointer that isn't null stands at or after the beginning of its array, and its elements have cells
 abbrev pub HasSubscript : Pointer → Type 0
 HasSubscript Null = Unit {0}
-HasSubscript (At object cell low high stride) = (low ≤ cell) × (1 ≤ stride)
+HasSubscript (At object cell low high stride) = (low ≤ cell) × (1 ≤ stride.cells)
 
 -- each live span lies among so many cells
 pub record HasRoom (spans : List Span) (room : ℕ) : Type 0 where

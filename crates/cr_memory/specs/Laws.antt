@@ -1,5 +1,6 @@
 -- What callers of the memory may use of pointers and cells, as facts about the definitions.
 use Rattle.std.specs.Prelude.{◌≡◌, ℕ, ◌+◌, ◌%◌, ◌<◌, ◌≤◌, false, Some, Ok, length, map}
+use Rattle.cr_memory.specs.declared.value.Element.{Element}
 use Rattle.cr_memory.specs.declared.value.Pointer.{Pointer}
 use Rattle.cr_memory.specs.declared.value.Pointer.TheVariants.{At}
 use Rattle.cr_memory.specs.declared.value.Scalar.{Scalar}
@@ -12,13 +13,13 @@ use Rattle.cr_memory.specs.Continues.{Continues, ContinuesBeside}
 
 -- a live object as one array, of elements of so many cells each
 abbrev pub WholeObjectIsPointed : Type 0
-WholeObjectIsPointed = (memory : Memory) (object stride : ℕ) (live : Object) → live_object memory object ≡ Some live
-    → 1 ≤ stride → length live.cells % stride ≡ 0 → IsPointer memory (At object 0 0 (length live.cells) stride)
+WholeObjectIsPointed = (memory : Memory) (object : ℕ) (stride : Element) (live : Object) → live_object memory object ≡ Some live
+    → 1 ≤ stride.cells → length live.cells % stride.cells ≡ 0 → IsPointer memory (At object 0 0 (length live.cells) stride)
 
 -- some cells of the element that a pointer points to, as an array of its own: a member, an element, or an array in it
 abbrev pub PartIsPointed : Type 0
-PartIsPointed = (memory : Memory) (object cell low high stride first count within : ℕ) → IsPointer memory (At object cell low high stride)
-    → cell < high → first + count ≤ stride → 1 ≤ within → count % within ≡ 0
+PartIsPointed = (memory : Memory) (object cell low high : ℕ) (stride : Element) (first count : ℕ) (within : Element) → IsPointer memory (At object cell low high stride)
+    → cell < high → first + count ≤ stride.cells → 1 ≤ within.cells → count % within.cells ≡ 0
     → IsPointer memory (At object (cell + first) (cell + first) (cell + first + count) within)
 
 -- ---- while the program goes on

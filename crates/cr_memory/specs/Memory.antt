@@ -48,7 +48,7 @@ pub record IsArrayPlace (memory : Memory) (object cell low high stride : ℕ) : 
 
 abbrev pub IsPointer : Memory → Pointer → Type 0
 IsPointer memory Null = Unit {0}
-IsPointer memory (At object cell low high stride) = IsArrayPlace memory object cell low high stride
+IsPointer memory (At object cell low high stride) = IsArrayPlace memory object cell low high stride.cells
 
 -- what a cell of a kind may hold: nothing yet, a number of the integer type's range, or a pointer
 abbrev pub Holds : Memory → Scalar → Cell → Type 0

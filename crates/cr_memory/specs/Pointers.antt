@@ -14,7 +14,7 @@ use Rattle.cr_memory.specs.Access.{is_null_or_end, is_literal, shape_at}
 abbrev pub moved_by : Pointer → ℤ → Result Pointer Trap
 moved_by Null by = Err (Undefined SUM_OUTSIDE)
 moved_by (At object cell low high stride) by =
-    let moved = pos cell +ℤ by *ℤ pos stride in
+    let moved = pos cell +ℤ by *ℤ pos stride.cells in
     if int_le (pos low) moved && int_le moved (pos high)
     then Ok (At object (unsigned_abs moved) low high stride)
     else Err (Undefined SUM_OUTSIDE)
@@ -32,7 +32,7 @@ difference_of Null (At object cell low high stride) = Err (Undefined DIFFERENT_A
 difference_of (At object cell low high stride) Null = Err (Undefined DIFFERENT_ARRAYS)
 difference_of (At object cell low high stride) (At object' cell' low' high' stride') =
     if object == object' && (low == low' && high == high')
-    then Ok (pos ((cell - low) / stride) -ℤ pos ((cell' - low') / stride'))
+    then Ok (pos ((cell - low) / stride.cells) -ℤ pos ((cell' - low') / stride'.cells))
     else Err (Undefined DIFFERENT_ARRAYS)
 
 -- two operands, each of a live object, before what their operation gives

@@ -19,13 +19,13 @@ fn moved(at: Pointer, by: i128) -> Result<Pointer, Trap>
         cell,
         low,
         high,
-        stride,
+        element,
     } = at
     else {
         return Err(Trap::Undefined(SUM_OUTSIDE));
     };
     let moved = by
-        .checked_mul(i128::from(stride))
+        .checked_mul(i128::from(element.cells))
         .and_then(|cells| cells.checked_add(i128::from(cell)));
     match moved {
         Some(moved) if i128::from(low) <= moved && moved <= i128::from(high) => {
@@ -34,7 +34,7 @@ fn moved(at: Pointer, by: i128) -> Result<Pointer, Trap>
                 cell: moved as u32,
                 low,
                 high,
-                stride,
+                element,
             })
         }
         _ => Err(Trap::Undefined(SUM_OUTSIDE)),
@@ -54,17 +54,20 @@ fn difference(left: Pointer, right: Pointer) -> Result<i128, Trap>
                 cell,
                 low,
                 high,
-                stride,
+                element,
             },
             Pointer::At {
                 object: other,
                 cell: cell_r,
                 low: low_r,
                 high: high_r,
-                stride: stride_r,
+                element: element_r,
             },
         ) if object == other && low == low_r && high == high_r => {
-            Ok(i128::from((cell - low) / stride) - i128::from((cell_r - low_r) / stride_r))
+            Ok(
+                i128::from((cell - low) / element.cells)
+                    - i128::from((cell_r - low_r) / element_r.cells),
+            )
         }
         _ => Err(Trap::Undefined(DIFFERENT_ARRAYS)),
     }

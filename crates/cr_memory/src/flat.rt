@@ -688,8 +688,8 @@ pub(crate) fn is_pointer(spans: &Spans, at: Pointer) -> bool
             cell,
             low,
             high,
-            stride,
-        } => is_array_place(spans, object, cell, low, high, stride),
+            element,
+        } => is_array_place(spans, object, cell, low, high, element.cells),
     }
 }
 

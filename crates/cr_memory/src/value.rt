@@ -1,3 +1,6 @@
+ghost use Rattle.std.specs.Prelude.{◌≡◌};
+ghost use Rattle.cr_memory.specs.Kind.{place_of};
+
 use cr_ints::IntKind;
 
 /// A pointer: null, or a cell of an object, or the end of an array in it.
@@ -5,15 +8,42 @@ use cr_ints::IntKind;
 pub enum Pointer {
     /// The null pointer (C11 6.3.2.3p3).
     Null,
-    /// The cell `cell` of the object `object`, in an array of elements of `stride` cells that has the cells from `low`
+    /// The cell `cell` of the object `object`, in an array of such elements that has the cells from `low`
     /// to below `high`. A pointer to the end of the array has the cell `high`. A single object is an array of one.
     At {
         object: u32,
         cell: u32,
         low: u32,
         high: u32,
-        stride: u32,
+        element: Element,
     },
+}
+
+/// What a pointer's array has: elements of so many cells, and of a type that a number names, which the memory never looks at.
+#[derive(Clone, Copy, PartialEq, Eq, Debug)]
+pub struct Element {
+    pub cells: u32,
+    pub of: u32,
+}
+
+/// The place of an integer type in their list.
+pub fn place_of(kind: IntKind) -> u32
+    ensures { result ≡ place_of kind }
+{
+    match kind {
+        IntKind::Bool => 0,
+        IntKind::Char => 1,
+        IntKind::SChar => 2,
+        IntKind::UChar => 3,
+        IntKind::Short => 4,
+        IntKind::UShort => 5,
+        IntKind::Int => 6,
+        IntKind::UInt => 7,
+        IntKind::Long => 8,
+        IntKind::ULong => 9,
+        IntKind::LLong => 10,
+        IntKind::ULLong => 11,
+    }
 }
 
 /// The kind of a scalar: an integer type, or a pointer type by a number for what it points to.

@@ -33,7 +33,7 @@ fn is_quiet(work: &Work) -> bool
 {
     match work {
         Work::Constant(_, _)
-        | Work::Object(_)
+        | Work::Object(_, _)
         | Work::Pass
         | Work::Comma
         | Work::Conditional(_)

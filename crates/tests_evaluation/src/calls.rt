@@ -5,8 +5,11 @@ use cr_exec_library::{exit, printf, putchar};
 use cr_exec_world::write;
 use cr_ints::IntKind;
 use cr_meaning::Value;
-use cr_memory::{Cell, Guard, Pointer, Scalar, Store, Trap};
+use cr_memory::{Cell, Element, Guard, Pointer, Scalar, Store, Trap};
 use std::alloc::{AllocError, Global};
+
+// A char as an element.
+const CHAR: Element = Element { cells: 1, of: 1 };
 
 // Formats, arguments, and the value with what stands in the output then, or the first case. An argument is a number of type int, or with
 // `u` or `l` behind it unsigned int or long; `'` begins a string, `[` one without its zero; `n` is a null pointer to char, `e` one whose
@@ -66,7 +69,7 @@ fn string(alloc: Global, unit: &mut Unit, bytes: &str, closed: bool) -> Result<V
         cell: 0,
         low: 0,
         high,
-        stride: 1,
+        element: CHAR,
     }))
 }
 
@@ -83,12 +86,37 @@ fn texts(alloc: Global, words: &str) -> Result<Vec<bool>, AllocError> {
     Ok(texts)
 }
 
+// The same place as one of chars.
+fn to_chars(value: Value) -> Value {
+    match value {
+        Value::Pointer(
+            Pointer::At {
+                object,
+                cell,
+                low,
+                high,
+                ..
+            },
+        ) => Value::Pointer(Pointer::At {
+            object,
+            cell,
+            low,
+            high,
+            element: CHAR,
+        }),
+        other => other,
+    }
+}
+
 fn argument(alloc: Global, unit: &mut Unit, word: &str) -> Result<Value, AllocError> {
     if let Some(bytes) = word.strip_prefix("'") {
         return string(alloc, unit, bytes, true);
     }
     if let Some(bytes) = word.strip_prefix("[") {
         return string(alloc, unit, bytes, false);
+    }
+    if is_text(word) {
+        return Ok(to_chars(value_of(word)));
     }
     Ok(value_of(word))
 }

@@ -137,9 +137,9 @@ fn pointer_text(alloc: Global, pointer: Pointer) -> Result<String, AllocError> {
             cell,
             low,
             high,
-            stride,
+            element,
             ..
-        } => format!(in alloc; "{cell} of {low}..{high} by {stride}"),
+        } => format!(in alloc; "{cell} of {low}..{high} by {}", element.cells),
     }
 }
 

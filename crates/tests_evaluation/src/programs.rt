@@ -8,7 +8,7 @@ use cr_meaning::{
     Access, Callee, Case, Change, Form, Limits, Line, Op, Operator, Parameter, Relation, Run,
     Target, Work,
 };
-use cr_memory::{Cell, Guard, Scalar};
+use cr_memory::{Cell, Element, Guard, Scalar};
 use cr_rows::Row;
 use cr_sequence::Times;
 use std::alloc::{AllocError, Global};
@@ -21,6 +21,13 @@ const INT: Scalar = Scalar::Int(IntKind::Int);
 const TO_INT: Scalar = Scalar::Pointer(0);
 
 const TO_POINTER: Scalar = Scalar::Pointer(1);
+
+// An element of one cell, a char, and what main's second argument points to; the types of objects have no names here.
+const ONE: Element = Element { cells: 1, of: 0 };
+
+const CHAR: Element = Element { cells: 1, of: 1 };
+
+const TEXT: Element = Element { cells: 1, of: 12 };
 
 // The steps that may be taken with the look at which the run is to stop, a program, and what its run comes to with the number of looks.
 // An operation is its work and behind `|` its operands, by their places in the list. By hand: `while(1);`, with and without a stop;
@@ -268,14 +275,16 @@ fn plain(name: &str) -> Option<Work> {
         "less" => Work::Compare(Relation::Less, IntKind::Int),
         "before" => Work::ComparePointers(Relation::Less),
         "equal" => Work::ComparePointers(Relation::Equal),
-        "distance" => Work::Distance(1),
-        "advance" => Work::Binary(Change::Move(false, 1)),
+        "distance" => Work::Distance(ONE),
+        "advance" => Work::Binary(Change::Move(false, ONE)),
         "not" => Work::Not,
         "address" => Work::AddressOf,
-        "at" => Work::Dereference(1),
-        "index" | "element" | "string" => Work::Subscript(1),
-        "first" => Work::Member(2, 0, 1, Form::Number(IntKind::Int)),
-        "second" => Work::Member(2, 1, 1, Form::Pointer(0)),
+        "at" => Work::Dereference(ONE),
+        "element" => Work::Subscript(ONE),
+        "index" => Work::Subscript(CHAR),
+        "string" => Work::Subscript(TEXT),
+        "first" => Work::Member(2, 0, ONE, Form::Number(IntKind::Int)),
+        "second" => Work::Member(2, 1, ONE, Form::Pointer(0)),
         "assign" => Work::Assign(Form::Number(IntKind::Int)),
         "store" => Work::Assign(Form::Number(IntKind::Char)),
         "point" => Work::Assign(Form::Pointer(0)),
@@ -305,9 +314,9 @@ fn work(
     }
     Ok(match name {
         "place" | "read" | "unsigned" | "pointed" | "vector" | "whole" => {
-            Work::Object(next(&mut words))
+            Work::Object(next(&mut words), 0)
         }
-        "text" => Work::Object(node),
+        "text" => Work::Object(node, 0),
         "printf" => Work::Call(Callee::Printf(texts(alloc, words)?)),
         "call" => {
             let body = next(&mut words);
@@ -323,8 +332,8 @@ fn access(name: &str) -> Access {
         "unsigned" => Access::Scalar(Scalar::Int(IntKind::UInt), false),
         "pointed" | "string" | "second" => Access::Scalar(TO_INT, false),
         "vector" => Access::Scalar(TO_POINTER, false),
-        "whole" => Access::Array(1, 4),
-        "text" => Access::Array(1, 0),
+        "whole" => Access::Array(ONE, 4),
+        "text" => Access::Array(CHAR, 0),
         _ => Access::Unused,
     }
 }

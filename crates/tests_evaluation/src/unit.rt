@@ -4,7 +4,7 @@ use cr_eval::Table;
 use cr_exec_world::{Names, World, close, enter, mark, spelled_for};
 use cr_ints::IntKind;
 use cr_meaning::{Limits, Value};
-use cr_memory::{Cell, Guard, Pointer, Scalar, Store};
+use cr_memory::{Cell, Element, Guard, Pointer, Scalar, Store};
 use cr_rows::Row;
 use cr_sequence::Times;
 use std::alloc::{AllocError, Global};
@@ -60,7 +60,7 @@ pub(crate) fn single(object: u32) -> Pointer {
         cell: 0,
         low: 0,
         high: 1,
-        stride: 1,
+        element: Element { cells: 1, of: 0 },
     }
 }
 

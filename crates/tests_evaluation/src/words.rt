@@ -11,12 +11,20 @@ use crate::unit::node_of;
 use cr_eval::Table;
 use cr_ints::{IntKind, promote};
 use cr_meaning::{Access, Callee, Change, Form, Op, Operator, Relation, Sign, Work};
-use cr_memory::Scalar;
+use cr_memory::{Element, Scalar};
 use cr_rows::Row;
 use std::alloc::{AllocError, Global};
 
 fn digit(byte: u8) -> u32 {
     u32::from(byte.saturating_sub(b'0'))
+}
+
+// All types have one name here, so elements are told apart by their cells.
+fn element(cells: u8) -> Element {
+    Element {
+        cells: digit(cells),
+        of: 0,
+    }
 }
 
 fn kind(letter: u8) -> IntKind {
@@ -43,7 +51,7 @@ fn access(of: &[u8]) -> Access {
         [b'*'] => Access::Scalar(Scalar::Pointer(0), false),
         [b's'] => Access::Cells(0),
         [letter] => Access::Scalar(Scalar::Int(kind(*letter)), *letter == b'v'),
-        [stride, whole] => Access::Array(digit(*stride), digit(*whole)),
+        [cells, whole] => Access::Array(element(*cells), digit(*whole)),
         _ => Access::Unused,
     }
 }
@@ -89,7 +97,7 @@ fn constant(name: &str) -> Option<Work> {
 
 fn object(name: &[u8]) -> Option<Work> {
     match name {
-        [letter] => Some(Work::Object(node_of(*letter)?)),
+        [letter] => Some(Work::Object(node_of(*letter)?, 0)),
         _ => None,
     }
 }
@@ -102,9 +110,9 @@ fn update(sign: &[u8], of: u8, post: bool) -> Option<Work> {
 
 fn member(name: &[u8]) -> Option<Work> {
     match name {
-        [b'.', b'm'] => Some(Work::Member(2, 0, 1, form(b'i'))),
-        [b'.', b'p'] => Some(Work::Member(2, 1, 1, form(b'*'))),
-        [b'-', b'>', b'm'] => Some(Work::PointerMember(2, 0, 1)),
+        [b'.', b'm'] => Some(Work::Member(2, 0, element(b'1'), form(b'i'))),
+        [b'.', b'p'] => Some(Work::Member(2, 1, element(b'1'), form(b'*'))),
+        [b'-', b'>', b'm'] => Some(Work::PointerMember(element(b'2'), 0, element(b'1'))),
         _ => None,
     }
 }
@@ -122,7 +130,7 @@ fn unary(name: &[u8]) -> Option<Work> {
 
 fn named(name: &[u8]) -> Option<Work> {
     match name {
-        [b'a', b't', cells] => Some(Work::Dereference(digit(*cells))),
+        [b'a', b't', cells] => Some(Work::Dereference(element(*cells))),
         [b'n', b'e', b'g', of] => Some(Work::Unary(Sign::Minus, kind(*of))),
         [b'p', b'o', b's', b't', sign, of] => update(&[*sign], *of, true),
         [b'p', b'r', b'e', sign, of] => update(&[*sign], *of, false),
@@ -132,9 +140,9 @@ fn named(name: &[u8]) -> Option<Work> {
 
 fn pointers(name: &[u8]) -> Option<Work> {
     match name {
-        [b'[', cells, b']'] => Some(Work::Subscript(digit(*cells))),
-        [b'p', sign, cells] => Some(Work::Binary(Change::Move(*sign == b'-', digit(*cells)))),
-        [b'd', cells] => Some(Work::Distance(digit(*cells))),
+        [b'[', cells, b']'] => Some(Work::Subscript(element(*cells))),
+        [b'p', sign, cells] => Some(Work::Binary(Change::Move(*sign == b'-', element(*cells)))),
+        [b'd', cells] => Some(Work::Distance(element(*cells))),
         [sign @ .., b'*'] => Some(Work::ComparePointers(relation(sign)?)),
         _ => None,
     }

@@ -145,6 +145,42 @@ left 5 4¦int main(void)\n{\n  int a[2][3] = { { 1 } };\n  return ((int *)a)[0];
 "#;
 
 // What no other table has of tokens and of units.
+// Pointers are moved, subtracted, followed and read as elements of their own type and of others (6.5p7, 6.5.6p7).
+const ELEMENTS: &str = r#"
+left 5 1¦struct a{int x;char c,d;};struct t{int x;char c;};struct b{struct t p;char d;};int main(){struct a s={1,2,3};return((struct b*)&s)->d;}
+left 5 1¦struct p{int a;};struct q{int a;};int f(struct p*x,struct q*y){x->a=1;y->a=2;return x->a;}int main(){struct p s;return f(&s,(struct q*)&s);}
+left 5 1¦int a[3];int main(){return (char*)&a[2]-(char*)a;}
+left 5 1¦int x;int main(){return (char*)&x+1==(char*)(&x+1);}
+lawful 0¦int x=1;int main(){return (unsigned*)&x==0;}
+left 5 1¦struct s{int a;}x={7};int main(){return *(int*)&x;}
+left 5 1¦struct s{int a;}x={7};int main(){return ((struct s*)&x.a)->a;}
+lawful 7¦struct t{int a;};struct s{struct t y;}x={{7}};int main(){struct s*p=&x;return p->y.a;}
+left 5 1¦struct t{int a;};struct s{struct t y;}x={{7}};int main(){return ((struct t*)&x)->a;}
+lawful 7¦struct s{int a;char c;}x={7};int main(){void*v=&x;struct s*p=v;return p->a;}
+lawful 7¦struct s{int a;}x={7};struct t{int b;};int main(){struct t*q=(struct t*)&x;return((struct s*)q)->a;}
+lawful 3¦int a[2]={1,2};int main(){const int*p=a;return p[1]+((int*)p)[0];}
+lawful 6¦int a[2][3]={{1,2,3},{4,5,6}};int main(){const int(*p)[3]=(const int(*)[3])a;return p[1][2];}
+left 5 1¦int a[2][3];int main(){return ((int(*)[2])a)[0][0];}
+left 5 1¦int a[6][1];int main(){return ((int*)a)[1];}
+left 5 1¦int a[2][3];int main(){return (*(int(*)[3][2])&a)[0][0];}
+left 5 1¦int a[1]={7};int main(){return *(int*)&a;}
+lawful 2¦extern int a[];int main(){int(*p)[3]=&a;return (*p)[1];}int a[3]={1,2,3};
+lawful 3¦extern int a[];int main(){int(*p)[]=&a;int(*q)[3]=p;return (*q)[2];}int a[3]={1,2,3};
+lawful 3¦int*f(int**p){return *p;}int x=3;int main(){int*p=&x;return *f(&p);}
+left 5 1¦int x=1,*p=&x;int main(){return **(const int**)&p;}
+lawful 0¦int main(int c,char**v){return *v!=0||v+1==v;}
+left 5 1¦unsigned char s[2]={1,2};int main(){return (char*)s+1==(char*)(s+1);}
+lawful 4¦typedef struct s{int a;}S;S x={4};int main(){struct s*p=&x;return p->a;}
+left 5 1¦struct s{int a;}x={5};int f(void*v){struct s{int a;};struct s*p=v;return p->a;}int main(){return f(&x);}
+lawful 0¦enum e{A}x=0;int main(){unsigned*p=(unsigned*)&x;return p[0];}
+lawful 5¦struct s{int a[2];int b;}x={{1,2},3};int main(){int*p=x.a;return p[1]+*&x.b;}
+undefined 9 1¦struct p{int a;};int main(){struct p*x=0;return x->a;}
+left 5 2¦struct p{int a;}x;struct q{int b;};\nint main(){struct q*y=(struct q*)&x;y++;return 0;}
+left 5 2¦int printf(const char*,...);signed char s[2]={65};\nint main(){return printf((char*)s);}
+left 5 1¦struct p{int a;}x;struct q{int b;};int main(){return (struct q*)&x-(struct q*)&x;}
+undefined 10 1¦struct p{int a;};struct q{int b;};int main(){struct p*x;{struct p y;x=&y;}return ((struct q*)x)->b;}
+"#;
+
 // String literals are compared, whose objects may be one (6.4.5p7).
 const LITERALS: &str = r#"
 left 6 1¦int main(){char*p="xab"+1,*q="ab";return p==q;}
@@ -245,4 +281,9 @@ fn pointers_into_two_literals_are_not_compared(rt: HostRuntime) -> Result<(), Fa
 #[test]
 fn the_end_of_an_array_is_compared_with_places_of_that_array(rt: HostRuntime) -> Result<(), Fail> {
     expect_all(rt.alloc(), PLACES)
+}
+
+#[test]
+fn a_pointer_is_used_by_elements_of_its_own_type(rt: HostRuntime) -> Result<(), Fail> {
+    expect_all(rt.alloc(), ELEMENTS)
 }

@@ -1,7 +1,7 @@
 use crate::rows::{expect_text, number, rows, triple};
 use crate::stores::{INT, LONG, SEVEN, copy, enter, has_stride, leave, load, place, save};
 use cr_ints::IntKind;
-use cr_memory::{Cell, Guard, Pointer, Scalar, Store, Trap};
+use cr_memory::{Cell, Element, Guard, Pointer, Scalar, Store, Trap};
 use std::alloc::{AllocError, Global};
 use std::process::Abort;
 use std::str::SplitWhitespace;
@@ -59,12 +59,12 @@ null¦0 0 0 6 1¦Err(Undefined(9))
 
 // Places, the elements by which they move, and where they are then.
 const MOVES: &str = "
-0 0 0 3 1¦3¦Ok(At { object: 0, cell: 3, low: 0, high: 3, stride: 1 })
+0 0 0 3 1¦3¦Ok(At { object: 0, cell: 3, low: 0, high: 3, element: Element { cells: 1, of: 0 } })
 0 0 0 3 1¦4¦Err(Undefined(6))
 0 0 0 3 1¦-1¦Err(Undefined(6))
 0 0 0 3 1¦170141183460469231731687303715884105727¦Err(Undefined(6))
-0 0 0 6 3¦1¦Ok(At { object: 0, cell: 3, low: 0, high: 6, stride: 3 })
-0 0 0 6 3¦2¦Ok(At { object: 0, cell: 6, low: 0, high: 6, stride: 3 })
+0 0 0 6 3¦1¦Ok(At { object: 0, cell: 3, low: 0, high: 6, element: Element { cells: 3, of: 0 } })
+0 0 0 6 3¦2¦Ok(At { object: 0, cell: 6, low: 0, high: 6, element: Element { cells: 3, of: 0 } })
 0 0 0 6 3¦3¦Err(Undefined(6))
 null¦0¦Err(Undefined(6))
 5 0 0 1 1¦9¦Err(Undefined(10))
@@ -119,7 +119,10 @@ fn place_of(cell: &str) -> Pointer {
         cell: next(&mut words),
         low: next(&mut words),
         high: next(&mut words),
-        stride: next(&mut words),
+        element: Element {
+            cells: next(&mut words),
+            of: 0,
+        },
     }
 }
 

@@ -3,7 +3,7 @@ ghost use Rattle.std.specs.Prelude.{◌≡◌, ◌↔◌, IsTrue};
 ghost use Rattle.cr_memory.specs.Access.{HasStride};
 
 use cr_ints::IntKind;
-use cr_memory::{Cell, Guard, Pointer, Scalar, Store, Trap};
+use cr_memory::{Cell, Element, Guard, Pointer, Scalar, Store, Trap};
 use std::process::Abort;
 
 pub(crate) const INT: Scalar = Scalar::Int(IntKind::Int);
@@ -12,16 +12,16 @@ pub(crate) const LONG: Scalar = Scalar::Int(IntKind::Long);
 
 pub(crate) const SEVEN: Cell = Cell::Number(7);
 
-/// A place in an array of elements of `stride` cells, from `low` to below `high`.
-pub(crate) fn place(object: u32, cell: u32, low: u32, high: u32, stride: u32) -> Pointer
-    ensures { result ≡ Pointer.At object cell low high stride }
+/// A place in an array of elements of so many cells, from `low` to below `high`.
+pub(crate) fn place(object: u32, cell: u32, low: u32, high: u32, cells: u32) -> Pointer
+    ensures { result ≡ Pointer.At object cell low high (record { cells = cells; of = 0 }) }
 {
     Pointer::At {
         object,
         cell,
         low,
         high,
-        stride,
+        element: Element { cells, of: 0 },
     }
 }
 
@@ -30,7 +30,7 @@ pub(crate) fn has_stride(at: Pointer, count: u32) -> bool
 {
     match at {
         Pointer::Null => true,
-        Pointer::At { stride, .. } => stride == count,
+        Pointer::At { element, .. } => element.cells == count,
     }
 }
 

@@ -20,7 +20,7 @@ use Rattle.cr_meaning.specs.declared.op.Operator.{Operator}
 use Rattle.cr_meaning.specs.declared.op.Change.{Change}
 use Rattle.cr_meaning.specs.declared.op.Change.TheVariants.{Arithmetic, Move}
 use Rattle.cr_meaning.specs.declared.op.Work.TheVariants as work
-use Rattle.cr_meaning_operations.specs.Shapes.{type_of_node, as_value, kind_in, cells_of, is_volatile, form_by, form_of, number_of}
+use Rattle.cr_meaning_operations.specs.Shapes.{type_of_node, as_value, kind_in, as_element, is_volatile, form_by, form_of, number_of}
 use Rattle.cr_meaning_operations.specs.Operations.{node_op, parts_at, change_of, common_kind, updated_integers, updated_shift, updated_sum, increment}
 use Rattle.cr_meaning_soundness.specs.Sorts.{Sort, place}
 use Rattle.cr_meaning_typing.specs.Typed.Good.{IsGood, value_sort, row_at}
@@ -70,7 +70,7 @@ module _ (p : Program) (t : Typed) (sorts : ℕ → Option Sort) (sees : ℕ →
   moves_good op back (plain (Int l) u v) (plain (Int r) w z) d own ok e h sa sb =
       of_type p sorts sees _ row own _ (ap (λ (o : Seen). o.type) e) (more.updated p sorts sees a b count r (Arithmetic op (common_of l r)) (form.Number l) v false sa sb tt)
   moves_good op back (to u v x) (plain (Int r) w z) d own ok e h sa sb =
-      of_type p sorts sees _ row own _ (taken (complete x) (address x) false own e h).1 (more.updated p sorts sees a b count r (Move back (cells_of t x)) (form.Pointer (number_of t x)) v false sa sb tt)
+      of_type p sorts sees _ row own _ (taken (complete x) (address x) false own e h).1 (more.updated p sorts sees a b count r (Move back (as_element t x)) (form.Pointer (number_of t x)) v false sa sb tt)
   moves_good op back (array n x) y d own ok e h sa sb = absurd (false≢true ok)
   moves_good op back x y d own ok e h sa sb = typeless own _ e h refl
 
@@ -134,7 +134,7 @@ step_good : (p : Program) (t : Typed) (sorts : ℕ → Option Sort) (sees : ℕ 
 step_good p t sorts sees complete fixed a row left count op back post (plain (Int l) u v) own ok e h sa =
     of_type p sorts sees _ row own _ (ap (λ (o : Seen). o.type) e) (more.stepped p sorts sees a count (Arithmetic op (common_of l IntegerKind)) (form.Number l) v post sa tt)
 step_good p t sorts sees complete fixed a row left count op back post (to u v x) own ok e h sa =
-    of_type p sorts sees _ row own _ (taken (complete x) (address x) false own e h).1 (more.stepped p sorts sees a count (Move back (cells_of t x)) (form.Pointer (number_of t x)) v post sa tt)
+    of_type p sorts sees _ row own _ (taken (complete x) (address x) false own e h).1 (more.stepped p sorts sees a count (Move back (as_element t x)) (form.Pointer (number_of t x)) v post sa tt)
 step_good p t sorts sees complete fixed a row left count op back post (array n x) own ok e h sa = absurd (false≢true ok)
 step_good p t sorts sees complete fixed a row left count op back post x own ok e h sa = typeless own _ e h refl
 

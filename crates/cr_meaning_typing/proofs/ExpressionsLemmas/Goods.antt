@@ -2,6 +2,7 @@
 use Rattle.std.proofs.Common.{◌≡◌, ℕ, zero, suc, Bool, List, [], ◌∷◌, Option, Some, inl, inr, refl, sym, ap, ◌∙◌, slice_get}
 use Rattle.cr_ints.specs.declared.kind.IntKind.{IntKind}
 use Rattle.cr_ints.specs.declared.kind.IntKind.TheVariants.{Int as IntegerKind, Long as LongKind}
+use Rattle.cr_memory.specs.declared.value.Element.{Element}
 use Rattle.cr_meaning.specs.World.{Program}
 use Rattle.cr_meaning.specs.declared.op.Op.{Op}
 use Rattle.cr_meaning.specs.declared.op.Access.{Access}
@@ -28,7 +29,7 @@ module _ (p : Program) (sorts : ℕ → Option Sort) (sees : ℕ → Bool) where
 
   -- ---- operators of two operands
 
-  pub distance : (a b count : ℕ) → sorts a ≡ Some pointer → sorts b ≡ Some pointer → IsGood p sorts sees (node_op (a ∷ b ∷ []) (work.Distance count)) (number LongKind)
+  pub distance : (a b : ℕ) (count : Element) → sorts a ≡ Some pointer → sorts b ≡ Some pointer → IsGood p sorts sees (node_op (a ∷ b ∷ []) (work.Distance count)) (number LongKind)
   distance a b count h g =
       let it = node_op (a ∷ b ∷ []) (work.Distance count) in
       record {
@@ -103,7 +104,7 @@ module _ (p : Program) (sorts : ℕ → Option Sort) (sees : ℕ → Bool) where
         demands = refl;
       }
 
-  pub followed : (a count : ℕ) (own : Sort) (access : Access) → sorts a ≡ Some pointer → IsValue own → Uses p access count own
+  pub followed : (a : ℕ) (count : Element) (own : Sort) (access : Access) → sorts a ≡ Some pointer → IsValue own → Uses p access count.cells own
       → IsGood p sorts sees (placed_op (a ∷ []) (work.Dereference count) access) own
   followed a count own access h v g =
       let it = placed_op (a ∷ []) (work.Dereference count) access in
@@ -112,7 +113,7 @@ module _ (p : Program) (sorts : ℕ → Option Sort) (sees : ℕ → Bool) where
         demands = (refl, has p sorts sees it 0 a pointer IsPointerSort refl h tt);
       }
 
-  pub element : (a b count : ℕ) (l : IntKind) (own : Sort) (access : Access) → sorts a ≡ Some pointer → sorts b ≡ Some (number l) → IsValue own → Uses p access count own
+  pub element : (a b : ℕ) (count : Element) (l : IntKind) (own : Sort) (access : Access) → sorts a ≡ Some pointer → sorts b ≡ Some (number l) → IsValue own → Uses p access count.cells own
       → IsGood p sorts sees (placed_op (a ∷ b ∷ []) (work.Subscript count) access) own
   element a b count l own access h g v u =
       let it = placed_op (a ∷ b ∷ []) (work.Subscript count) access in
@@ -121,7 +122,7 @@ module _ (p : Program) (sorts : ℕ → Option Sort) (sees : ℕ → Bool) where
         demands = inl ((refl, has p sorts sees it 0 a pointer IsPointerSort refl h tt), has p sorts sees it 1 b (number l) IsNumber refl g tt);
       }
 
-  pub element_other : (a b count : ℕ) (l : IntKind) (own : Sort) (access : Access) → sorts a ≡ Some (number l) → sorts b ≡ Some pointer → IsValue own → Uses p access count own
+  pub element_other : (a b : ℕ) (count : Element) (l : IntKind) (own : Sort) (access : Access) → sorts a ≡ Some (number l) → sorts b ≡ Some pointer → IsValue own → Uses p access count.cells own
       → IsGood p sorts sees (placed_op (a ∷ b ∷ []) (work.Subscript count) access) own
   element_other a b count l own access h g v u =
       let it = placed_op (a ∷ b ∷ []) (work.Subscript count) access in
@@ -130,16 +131,17 @@ module _ (p : Program) (sorts : ℕ → Option Sort) (sees : ℕ → Bool) where
         demands = inr ((refl, has p sorts sees it 0 a (number l) IsNumber refl h tt), has p sorts sees it 1 b pointer IsPointerSort refl g tt);
       }
 
-  pub member : (a whole before count : ℕ) (sa own : Sort) (form : Form) (access : Access) → sorts a ≡ Some sa → IsValue own → HasMember p access whole before count form own sa
+  pub member : (a whole before : ℕ) (count : Element) (sa own : Sort) (form : Form) (access : Access) → sorts a ≡ Some sa → IsValue own → HasMember p access whole before count.cells form own sa
       → IsObjectForm form → IsStructure sa → IsGood p sorts sees (placed_op (a ∷ []) (work.Member whole before count form) access) own
   member a whole before count sa own form access h v g o s =
       let it = placed_op (a ∷ []) (work.Member whole before count form) access in
       record {
-        typed = record { gives = (v, has p sorts sees it 0 a sa (HasMember p access whole before count form own) refl h g); parts = one_there p sorts sees a sa h };
+        typed = record { gives = (v, has p sorts sees it 0 a sa (HasMember p access whole before count.cells form own) refl h g); parts = one_there p sorts sees a sa h };
         demands = (o, (refl, has p sorts sees it 0 a sa IsStructure refl h s));
       }
 
-  pub pointer_member : (a whole before count : ℕ) (own : Sort) (access : Access) → sorts a ≡ Some pointer → IsValue own → IsWithin whole before count → Uses p access count own
+  pub pointer_member : (a : ℕ) (whole : Element) (before : ℕ) (count : Element) (own : Sort) (access : Access) → sorts a ≡ Some pointer → IsValue own
+      → IsWithin whole.cells before count.cells → Uses p access count.cells own
       → IsGood p sorts sees (placed_op (a ∷ []) (work.PointerMember whole before count) access) own
   pointer_member a whole before count own access h v w u =
       let it = placed_op (a ∷ []) (work.PointerMember whole before count) access in

@@ -23,7 +23,7 @@ use Rattle.cr_meaning.specs.declared.op.Operator.TheVariants as operator
 use Rattle.cr_meaning.specs.declared.op.Relation.{Relation}
 use Rattle.cr_meaning.specs.declared.op.Change.TheVariants.{Arithmetic as Arithmetical}
 use Rattle.cr_meaning.specs.declared.op.Work.TheVariants as work
-use Rattle.cr_meaning_operations.specs.Shapes.{type_of_node, named_type, as_value, kind_in, cells_of, stride_of, is_pointer, form_by, form_of, number_of}
+use Rattle.cr_meaning_operations.specs.Shapes.{type_of_node, named_type, as_value, kind_in, as_element, pointed_element, is_pointer, form_by, form_of, number_of}
 use Rattle.cr_meaning_operations.specs.Operations.{node_op, parts_at, part_at, change_of, common_kind, shift, difference, comparison}
 use Rattle.cr_meaning_soundness.specs.Sorts.{Sort, number, pointer}
 use Rattle.cr_meaning_soundness.specs.Operands.{IsScalar}
@@ -118,7 +118,7 @@ shifts operator op = of_two (shifted_value operator) (shift_by op) (shifts_refus
 abbrev difference_by : Typed → List ℕ → Qualified → Qualified → Op
 difference_by t ps x y =
     if is_pointer (as_value x) && is_pointer (as_value y)
-    then node_op ps (work.Distance (stride_of t (as_value x)))
+    then node_op ps (work.Distance (pointed_element t (as_value x)))
     else node_op ps (work.Binary (change_of t operator.Subtract true (common_kind (as_value x) (as_value y)) (as_value x) (as_value y)))
 
 abbrev a_long : Valued
@@ -129,17 +129,17 @@ unfolding common_constant
 difference_good complete p t sorts sees a b row left right (plain (Int l) u v) (plain (Int r) w z) c d own e h sa sb =
     of_type p sorts sees _ row own (plain (Int (common_of l r)) false false) (ap (λ (o : Seen). o.type) e) (good.integers p sorts sees a b l r (common_of l r) operator.Subtract sa sb)
 difference_good complete p t sorts sees a b row left right (to u v x) (plain (Int r) w z) c d own e h sa sb =
-    of_type p sorts sees _ row own (to false false x) (taken (complete x) (address x) false own e h).1 (good.moved p sorts sees a b r true (cells_of t x) sa sb)
+    of_type p sorts sees _ row own (to false false x) (taken (complete x) (address x) false own e h).1 (good.moved p sorts sees a b r true (as_element t x) sa sb)
 difference_good complete p t sorts sees a b row left right (array n x) (plain (Int r) w z) c d own e h sa sb =
-    of_type p sorts sees _ row own (to false false x) (taken (complete x) (address x) false own e h).1 (good.moved p sorts sees a b r true (cells_of t x) sa sb)
+    of_type p sorts sees _ row own (to false false x) (taken (complete x) (address x) false own e h).1 (good.moved p sorts sees a b r true (as_element t x) sa sb)
 difference_good complete p t sorts sees a b row left right (to u v x) (to w z y) c d own e h sa sb =
-    of_type p sorts sees _ row own _ (taken (complete x && (complete y && are_alike x y)) a_long false own e h).1 (more.distance p sorts sees a b (cells_of t x) sa sb)
+    of_type p sorts sees _ row own _ (taken (complete x && (complete y && are_alike x y)) a_long false own e h).1 (more.distance p sorts sees a b (as_element t x) sa sb)
 difference_good complete p t sorts sees a b row left right (to u v x) (array m y) c d own e h sa sb =
-    of_type p sorts sees _ row own _ (taken (complete x && (complete y && are_alike x y)) a_long false own e h).1 (more.distance p sorts sees a b (cells_of t x) sa sb)
+    of_type p sorts sees _ row own _ (taken (complete x && (complete y && are_alike x y)) a_long false own e h).1 (more.distance p sorts sees a b (as_element t x) sa sb)
 difference_good complete p t sorts sees a b row left right (array n x) (to w z y) c d own e h sa sb =
-    of_type p sorts sees _ row own _ (taken (complete x && (complete y && are_alike x y)) a_long false own e h).1 (more.distance p sorts sees a b (cells_of t x) sa sb)
+    of_type p sorts sees _ row own _ (taken (complete x && (complete y && are_alike x y)) a_long false own e h).1 (more.distance p sorts sees a b (as_element t x) sa sb)
 difference_good complete p t sorts sees a b row left right (array n x) (array m y) c d own e h sa sb =
-    of_type p sorts sees _ row own _ (taken (complete x && (complete y && are_alike x y)) a_long false own e h).1 (more.distance p sorts sees a b (cells_of t x) sa sb)
+    of_type p sorts sees _ row own _ (taken (complete x && (complete y && are_alike x y)) a_long false own e h).1 (more.distance p sorts sees a b (as_element t x) sa sb)
 difference_good complete p t sorts sees a b row left right x y c d own e h sa sb = typeless own _ e h refl
 
 pub differences : (complete : Qualified → Bool) → TwoAreGood (difference_value complete) difference

@@ -8,6 +8,7 @@ use Rattle.cr_ints.specs.declared.kind.IntKind.TheVariants.{Char as CharKind}
 use Rattle.cr_check_constants.specs.declared.constant.Constant.{Constant}
 use Rattle.cr_check_constants.specs.declared.constant.Constant.TheVariants.{Value}
 use Rattle.cr_check_constants.specs.declared.constant.Operand.{Operand}
+use Rattle.cr_memory.specs.declared.value.Element.{Element}
 use Rattle.cr_memory.specs.declared.value.Scalar.{Scalar}
 use Rattle.cr_memory.specs.declared.value.Scalar.TheVariants as scalar
 use Rattle.cr_memory.specs.declared.value.Guard.{Guard}
@@ -29,8 +30,8 @@ use Rattle.cr_meaning.specs.declared.op.Change.TheVariants.{Move}
 use Rattle.cr_meaning.specs.declared.op.Work.{Work}
 use Rattle.cr_meaning.specs.declared.op.Work.TheVariants as work
 use Rattle.cr_meaning.specs.declared.run.Limits.{Limits}
-use Rattle.cr_meaning_operations.specs.Shapes.{type_of_node, as_value, kind_in, cells_of, stride_of, cells_with, structure_cells, shape_of, form_by, form_of, access_by, access_of, offset_in}
-use Rattle.cr_meaning_operations.specs.Operations.{node_op, placed, parts_at, kind_at, left_type, right_type, either_stride, address_by, pointed, chosen_row, member, pointer_member, constant, constant_by, object_shape, program_of}
+use Rattle.cr_meaning_operations.specs.Shapes.{type_of_node, as_value, kind_in, cells_of, name_in, as_element, pointed_element, cells_with, structure_cells, shape_of, form_by, form_of, access_by, access_of, offset_in}
+use Rattle.cr_meaning_operations.specs.Operations.{node_op, placed, parts_at, kind_at, left_type, right_type, either_element, address_by, pointed, chosen_row, member, pointer_member, constant, constant_by, object_shape, program_of}
 use Rattle.cr_meaning_soundness.specs.Sorts.{Sort, number, pointer, place, cells, chars, sort_of, sorts_in}
 use Rattle.cr_meaning_soundness.specs.Rules.{Uses, Passes, IsValue}
 use Rattle.cr_meaning_soundness.specs.Operands.{IsObjectForm}
@@ -79,22 +80,22 @@ module _ (t : Typed) (limits : Limits) (sorts : ℕ → Option Sort) (sees : ℕ
   literal_shape e = ap (object_shape t i) e
 
   pub literal_placed : kind_at t i ≡ kind.Text → at i ≡ text_of (length (slice_index_or t.texts i [])) → 1 ≤ length (slice_index_or t.texts i []) → sees i ≡ true
-      → IsGood (program_of t limits) sorts sees (placed t i [] (work.Object i)) (place_sort (program_of t limits) t i (length (slice_index_or t.texts i [])))
+      → IsGood (program_of t limits) sorts sees (placed t i [] (work.Object i (name_in t (type_of_node t i)))) (place_sort (program_of t limits) t i (length (slice_index_or t.texts i [])))
   literal_placed e f some s =
       let count = length (slice_index_or t.texts i []) in
       let shape : length ((program_of t limits).shape i) ≡ count = ap length (literal_shape e) ∙ length-map (slice_index_or t.texts i []) char_cell in
       let type : type_of_node t i ≡ array count (plain (Int CharKind) false false) = columns.types i ∙ ap (λ (o : Seen). o.type) f in
       let object : IsObject t count (type_of_node t i) = subst (IsObject t count) (sym type) ((let one : 1 ≤ 1 = omega arith in one), mod-one count) in
-      good.named (program_of t limits) sorts sees i (access_of t i) (place_sort (program_of t limits) t i count) (place_worth (program_of t limits) t i count object)
+      good.named (program_of t limits) sorts sees i (name_in t (type_of_node t i)) (access_of t i) (place_sort (program_of t limits) t i count) (place_worth (program_of t limits) t i count object)
       (subst (λ n. 1 ≤ n) (sym shape) some)
       (gives_at (program_of t limits) t (row_at t i) count i (slice_index_or t.valued i false) (type_of_node t i) shape object) s
 
   pub literal_filling : kind_at t i ≡ kind.Text → 1 ≤ length (slice_index_or t.texts i []) → sees i ≡ true → slice_index_or t.valued i false ≡ false
-      → IsGood (program_of t limits) sorts sees (placed t i [] (work.Object i)) chars
+      → IsGood (program_of t limits) sorts sees (placed t i [] (work.Object i (name_in t (type_of_node t i)))) chars
   literal_filling e some s v =
       let shape = literal_shape e in
       let count : length ((program_of t limits).shape i) ≡ length (slice_index_or t.texts i []) = ap length shape ∙ length-map (slice_index_or t.texts i []) char_cell in
-      good.named (program_of t limits) sorts sees i (access_of t i) chars tt (subst (λ n. 1 ≤ n) (sym count) some) (
+      good.named (program_of t limits) sorts sees i (name_in t (type_of_node t i)) (access_of t i) chars tt (subst (λ n. 1 ≤ n) (sym count) some) (
         ap (λ used. if used then access_by t (row_at t i) (type_of_node t i) else access.Unused) v,
         subst (λ xs. sorts_in xs ≡ replicate (length xs) (number CharKind)) (sym shape) (are_chars (slice_index_or t.texts i [])),
       ) s
@@ -145,39 +146,40 @@ followed_type complete x own e h = by (complete x) e
     by false f = typeless own _ f h refl
 
 follow_good : (p : Program) (t : Typed) (complete : Qualified → Bool) (x : Qualified) (c : Constant) (own : Seen) → own ≡ dereferenced complete (value_in x c) → is_typed own ≡ true
-    → ((row : ℕ) → value_sort p row x ≡ pointer) × (stride_of t (as_value x) ≡ cells_of t own.type)
-follow_good p t complete (to u v x) c own e h = ((λ row. refl), ap (cells_of t) (sym (followed_type complete x own e h)))
-follow_good p t complete (array n x) c own e h = ((λ row. refl), ap (cells_of t) (sym (followed_type complete x own e h)))
+    → ((row : ℕ) → value_sort p row x ≡ pointer) × (pointed_element t (as_value x) ≡ as_element t own.type)
+follow_good p t complete (to u v x) c own e h = ((λ row. refl), ap (as_element t) (sym (followed_type complete x own e h)))
+follow_good p t complete (array n x) c own e h = ((λ row. refl), ap (as_element t) (sym (followed_type complete x own e h)))
 follow_good p t complete (plain (Int k) u v) c own e h = typeless own _ e h refl
 follow_good p t complete x c own e h = typeless own _ e h refl
 
 pub followeds : (p : Program) (t : Typed) (sorts : ℕ → Option Sort) (sees : ℕ → Bool) (at : ℕ → Seen) (complete : Qualified → Bool) → AreColumns t at → (i a : ℕ)
     → parts_at t i ≡ a ∷ [] → at i ≡ dereferenced complete (value_of_seen (at a)) → is_typed (at i) ≡ true → IsValueAt p t sorts a → HasCells t i
-    → IsGood p sorts sees (placed t i (parts_at t i) (work.Dereference (stride_of t (left_type t i)))) (place_sort p t i (cells_at t i))
+    → IsGood p sorts sees (placed t i (parts_at t i) (work.Dereference (pointed_element t (left_type t i)))) (place_sort p t i (cells_at t i))
 followeds p t sorts sees at complete columns i a e f h sa object =
     let count = cells_at t i in
     let one = seen_plain (dereferenced complete) (λ u. refl) (at a) (at i) f h in
     let it = follow_good p t complete (at a).type (at a).constant (at i) one h in
-    let stride : stride_of t (as_value (type_of_node t a)) ≡ count = ap (λ x. stride_of t (as_value x)) (columns.types a) ∙ it.1 ∙ ap (cells_of t) (sym (columns.types i)) in
-    subst (λ ps. IsGood p sorts sees (placed_op ps (work.Dereference (stride_of t (as_value (type_of_node t (slice_index_or ps 0 0))))) (access_of t i)) (place_sort p t i count)) (sym e)
-    (subst (λ n. IsGood p sorts sees (placed_op (a ∷ []) (work.Dereference n) (access_of t i)) (place_sort p t i count)) (sym stride)
-    (more.followed p sorts sees a count (place_sort p t i count) (access_of t i) (value_as p t sorts at columns a sa ∙ ap Some (it.0 (row_at t a))) (place_worth p t i count object) (place_uses p t i count object)))
+    let element = as_element t (type_of_node t i) in
+    let same : pointed_element t (as_value (type_of_node t a)) ≡ element = ap (λ x. pointed_element t (as_value x)) (columns.types a) ∙ it.1 ∙ ap (as_element t) (sym (columns.types i)) in
+    subst (λ ps. IsGood p sorts sees (placed_op ps (work.Dereference (pointed_element t (as_value (type_of_node t (slice_index_or ps 0 0))))) (access_of t i)) (place_sort p t i count)) (sym e)
+    (subst (λ n. IsGood p sorts sees (placed_op (a ∷ []) (work.Dereference n) (access_of t i)) (place_sort p t i count)) (sym same)
+    (more.followed p sorts sees a element (place_sort p t i count) (access_of t i) (value_as p t sorts at columns a sa ∙ ap Some (it.0 (row_at t a))) (place_worth p t i count object) (place_uses p t i count object)))
 
 -- ---- subscripts
 
-module _ (p : Program) (t : Typed) (sorts : ℕ → Option Sort) (sees : ℕ → Bool) (complete : Qualified → Bool) (a b left right count : ℕ) (use_of : Access) (made : Sort)
-    (worth : IsValue made) (uses : Uses p use_of count made) where
-  element_good : (x y : Qualified) (c d : Constant) (own : Seen) → own ≡ subscripted complete (value_in x c) (value_in y d) → is_typed own ≡ true → cells_of t own.type ≡ count
+module _ (p : Program) (t : Typed) (sorts : ℕ → Option Sort) (sees : ℕ → Bool) (complete : Qualified → Bool) (a b left right : ℕ) (element : Element) (use_of : Access) (made : Sort)
+    (worth : IsValue made) (uses : Uses p use_of element.cells made) where
+  element_good : (x y : Qualified) (c d : Constant) (own : Seen) → own ≡ subscripted complete (value_in x c) (value_in y d) → is_typed own ≡ true → as_element t own.type ≡ element
       → sorts a ≡ Some (value_sort p left x) → sorts b ≡ Some (value_sort p right y)
-      → IsGood p sorts sees (placed_op (a ∷ b ∷ []) (work.Subscript (either_stride t (as_value x) (as_value y))) use_of) made
+      → IsGood p sorts sees (placed_op (a ∷ b ∷ []) (work.Subscript (either_element t (as_value x) (as_value y))) use_of) made
   element_good (to u v x) (plain (Int r) w z) c d own e h n sa sb =
-      subst (λ m. IsGood p sorts sees (placed_op (a ∷ b ∷ []) (work.Subscript m) use_of) made) (sym n ∙ ap (cells_of t) (followed_type complete x own e h)) (more.element p sorts sees a b count r made use_of sa sb worth uses)
+      subst (λ m. IsGood p sorts sees (placed_op (a ∷ b ∷ []) (work.Subscript m) use_of) made) (sym n ∙ ap (as_element t) (followed_type complete x own e h)) (more.element p sorts sees a b element r made use_of sa sb worth uses)
   element_good (array m x) (plain (Int r) w z) c d own e h n sa sb =
-      subst (λ m. IsGood p sorts sees (placed_op (a ∷ b ∷ []) (work.Subscript m) use_of) made) (sym n ∙ ap (cells_of t) (followed_type complete x own e h)) (more.element p sorts sees a b count r made use_of sa sb worth uses)
+      subst (λ m. IsGood p sorts sees (placed_op (a ∷ b ∷ []) (work.Subscript m) use_of) made) (sym n ∙ ap (as_element t) (followed_type complete x own e h)) (more.element p sorts sees a b element r made use_of sa sb worth uses)
   element_good (plain (Int l) u v) (to w z y) c d own e h n sa sb =
-      subst (λ m. IsGood p sorts sees (placed_op (a ∷ b ∷ []) (work.Subscript m) use_of) made) (sym n ∙ ap (cells_of t) (followed_type complete y own e h)) (more.element_other p sorts sees a b count l made use_of sa sb worth uses)
+      subst (λ m. IsGood p sorts sees (placed_op (a ∷ b ∷ []) (work.Subscript m) use_of) made) (sym n ∙ ap (as_element t) (followed_type complete y own e h)) (more.element_other p sorts sees a b element l made use_of sa sb worth uses)
   element_good (plain (Int l) u v) (array m y) c d own e h n sa sb =
-      subst (λ m. IsGood p sorts sees (placed_op (a ∷ b ∷ []) (work.Subscript m) use_of) made) (sym n ∙ ap (cells_of t) (followed_type complete y own e h)) (more.element_other p sorts sees a b count l made use_of sa sb worth uses)
+      subst (λ m. IsGood p sorts sees (placed_op (a ∷ b ∷ []) (work.Subscript m) use_of) made) (sym n ∙ ap (as_element t) (followed_type complete y own e h)) (more.element_other p sorts sees a b element l made use_of sa sb worth uses)
   element_good (plain (Int l) u v) (plain (Int r) w z) c d own e h n sa sb = typeless own _ e h refl
   element_good x y c d own e h n sa sb = typeless own _ e h refl
 
@@ -189,17 +191,17 @@ subscript_right complete v t = refl
 pub subscripts : (p : Program) (t : Typed) (sorts : ℕ → Option Sort) (sees : ℕ → Bool) (at : ℕ → Seen) (complete : Qualified → Bool) → AreColumns t at → (i a b : ℕ)
     → parts_at t i ≡ a ∷ b ∷ [] → at i ≡ subscripted complete (value_of_seen (at a)) (value_of_seen (at b)) → is_typed (at i) ≡ true
     → IsValueAt p t sorts a → IsValueAt p t sorts b → HasCells t i
-    → IsGood p sorts sees (placed t i (parts_at t i) (work.Subscript (either_stride t (left_type t i) (right_type t i)))) (place_sort p t i (cells_at t i))
+    → IsGood p sorts sees (placed t i (parts_at t i) (work.Subscript (either_element t (left_type t i) (right_type t i)))) (place_sort p t i (cells_at t i))
 subscripts p t sorts sees at complete columns i a b e f h sa sb object =
     let count = cells_at t i in
     let va = value_in (at a).type (at a).constant in
     let one = seen_plain (λ v. subscripted complete v (value_of_seen (at b))) (λ u. refl) (at a) (at i) f h in
     let two = seen_plain (λ v. subscripted complete va v) (λ u. ap is_typed (subscript_right complete va u)) (at b) (at i) one h in
-    let made = element_good p t sorts sees complete a b (row_at t a) (row_at t b) count (access_of t i) (place_sort p t i count) (place_worth p t i count object) (place_uses p t i count object)
-    (at a).type (at b).type (at a).constant (at b).constant (at i) two h (ap (cells_of t) (sym (columns.types i))) (value_as p t sorts at columns a sa) (value_as p t sorts at columns b sb) in
-    subst (λ ps. IsGood p sorts sees (placed_op ps (work.Subscript (either_stride t (as_value (type_of_node t (slice_index_or ps 0 0))) (as_value (type_of_node t (slice_index_or ps 1 0))))) (access_of t i)) (place_sort p t i count)) (sym e)
-    (subst (λ x. IsGood p sorts sees (placed_op (a ∷ b ∷ []) (work.Subscript (either_stride t (as_value x) (as_value (type_of_node t b)))) (access_of t i)) (place_sort p t i count)) (sym (columns.types a))
-    (subst (λ y. IsGood p sorts sees (placed_op (a ∷ b ∷ []) (work.Subscript (either_stride t (as_value (at a).type) (as_value y))) (access_of t i)) (place_sort p t i count)) (sym (columns.types b)) made))
+    let made = element_good p t sorts sees complete a b (row_at t a) (row_at t b) (as_element t (type_of_node t i)) (access_of t i) (place_sort p t i count) (place_worth p t i count object) (place_uses p t i count object)
+    (at a).type (at b).type (at a).constant (at b).constant (at i) two h (ap (as_element t) (sym (columns.types i))) (value_as p t sorts at columns a sa) (value_as p t sorts at columns b sb) in
+    subst (λ ps. IsGood p sorts sees (placed_op ps (work.Subscript (either_element t (as_value (type_of_node t (slice_index_or ps 0 0))) (as_value (type_of_node t (slice_index_or ps 1 0))))) (access_of t i)) (place_sort p t i count)) (sym e)
+    (subst (λ x. IsGood p sorts sees (placed_op (a ∷ b ∷ []) (work.Subscript (either_element t (as_value x) (as_value (type_of_node t b)))) (access_of t i)) (place_sort p t i count)) (sym (columns.types a))
+    (subst (λ y. IsGood p sorts sees (placed_op (a ∷ b ∷ []) (work.Subscript (either_element t (as_value (at a).type) (as_value y))) (access_of t i)) (place_sort p t i count)) (sym (columns.types b)) made))
 
 -- ---- addresses
 
@@ -231,7 +233,7 @@ module _ (p : Program) (t : Typed) (sorts : ℕ → Option Sort) (sees : ℕ →
       (subst (λ ps. IsGood p sorts sees (node_op ps work.Pass) pointer) (sym parts) (more.passed p sorts sees e pointer pointer access.Unused (value_as p t sorts at columns e h ∙ ap Some is) tt refl))
 
   -- of what a subscript gives
-  element_there : (complete : Qualified → Bool) (count e f left right : ℕ) (x y : Qualified) (c d : Constant) → at a ≡ subscripted complete (value_in x c) (value_in y d)
+  element_there : (complete : Qualified → Bool) (count : Element) (e f left right : ℕ) (x y : Qualified) (c d : Constant) → at a ≡ subscripted complete (value_in x c) (value_in y d)
       → sorts e ≡ Some (value_sort p left x) → sorts f ≡ Some (value_sort p right y) → IsGood p sorts sees (node_op (e ∷ f ∷ []) (work.Binary (Move false count))) pointer
   element_there complete count e f left right (to u v x) (plain (Int r) w z) c d s se sf = good.moved p sorts sees e f r false count se sf
   element_there complete count e f left right (array n x) (plain (Int r) w z) c d s se sf = good.moved p sorts sees e f r false count se sf
@@ -243,7 +245,7 @@ module _ (p : Program) (t : Typed) (sorts : ℕ → Option Sort) (sees : ℕ →
   pub address_element : (complete : Qualified → Bool) (e f : ℕ) → parts_at t a ≡ e ∷ f ∷ [] → at a ≡ subscripted complete (value_of_seen (at e)) (value_of_seen (at f))
       → IsValueAt p t sorts e → IsValueAt p t sorts f → IsGoodAt p t sorts sees i (address_by t i a kind.Subscript)
   address_element complete e f parts s se sf =
-      let count = either_stride t (left_type t a) (right_type t a) in
+      let count = either_element t (left_type t a) (right_type t a) in
       let ve = value_in (at e).type (at e).constant in
       let one = plain_by (λ (o : Seen). o.lvalue) (λ v. subscripted complete v (value_of_seen (at f))) (λ u. refl) (at e) (at a) s is_place in
       let two = plain_by (λ (o : Seen). o.lvalue) (λ v. subscripted complete ve v) (λ u. ap (λ (o : Seen). o.lvalue) (subscript_right complete ve u)) (at f) (at a) one is_place in
@@ -282,7 +284,7 @@ member_sort t limits count row chosen c v (array n b) e f h =
 
 abbrev member_by : Typed → ℕ → Qualified → Work
 member_by t i structure =
-    work.Member (cells_of t structure) (offset_in t structure (slice_index_or t.chosen i 0)) (row_cells t (chosen_row t i structure)) (form_of t (chosen_row t i structure))
+    work.Member (cells_of t structure) (offset_in t structure (slice_index_or t.chosen i 0)) (as_element t (type_at t.shapes (chosen_row t i structure))) (form_of t (chosen_row t i structure))
 
 module _ (t : Typed) (limits : Limits) (sorts : ℕ → Option Sort) (sees : ℕ → Bool) (at : ℕ → Seen) (columns : AreColumns t at) (i a : ℕ) (parts : parts_at t i ≡ a ∷ [])
     (made : at i ≡ member_of (Some (type_at t.shapes (chosen_row t i (type_of_node t a)))) (at a)) (inside : IsMemberIn t i (type_of_node t a)) where
@@ -301,7 +303,7 @@ module _ (t : Typed) (limits : Limits) (sorts : ℕ → Option Sort) (sees : ℕ
       let structure = type_of_node t a in
       let size = row_cells t (chosen_row t i structure) in
       subst (λ ps. IsGood p sorts sees (placed_op ps (member_by t i (type_of_node t (slice_index_or ps 0 0))) (access_of t i)) (place_sort p t i size)) (sym parts)
-      (more.member p sorts sees a (cells_of t structure) (offset_in t structure (slice_index_or t.chosen i 0)) size (place count) (place_sort p t i size) (form_of t (chosen_row t i structure)) (access_of t i) h
+      (more.member p sorts sees a (cells_of t structure) (offset_in t structure (slice_index_or t.chosen i 0)) (as_element t (type_at t.shapes (chosen_row t i structure))) (place count) (place_sort p t i size) (form_of t (chosen_row t i structure)) (access_of t i) h
       (place_worth p t i size inside.object) (inside.within, place_uses p t i size inside.object) object_form tt)
 
   pub member_beside : sorts a ≡ Some (cells ((program_of t limits).kinds (row_at t a))) → AreAmong t limits i a
@@ -315,7 +317,7 @@ module _ (t : Typed) (limits : Limits) (sorts : ℕ → Option Sort) (sees : ℕ
       let is : own ≡ sort_of p (form_of t chosen) =
       ap (beside_sort p (row_at t i)) member_type ∙ member_sort t limits size (row_at t i) chosen (constant_in (at a).type) (volatile_in (at a).type) (type_at t.shapes chosen) member_type refl (subst (IsObject t size) member_type inside.object) in
       subst (λ ps. IsGood p sorts sees (placed_op ps (member_by t i (type_of_node t (slice_index_or ps 0 0))) (access_of t i)) own) (sym parts)
-      (more.member p sorts sees a (cells_of t structure) (offset_in t structure (slice_index_or t.chosen i 0)) size (cells (p.kinds (row_at t a))) own (form_of t chosen) (access_of t i) h
+      (more.member p sorts sees a (cells_of t structure) (offset_in t structure (slice_index_or t.chosen i 0)) (as_element t (type_at t.shapes chosen)) (cells (p.kinds (row_at t a))) own (form_of t chosen) (access_of t i) h
       (used_value p false (row_at t i) (type_of_node t i)) (record { among = among; own_is = is }) object_form tt)
 
 pointed_there : (p : Program) (found : Option Qualified) (x : Qualified) (c : Constant) (row : ℕ) (own : Seen) → own ≡ pointed_member_of found (value_in x c) → is_typed own ≡ true → value_sort p row x ≡ pointer
@@ -330,8 +332,9 @@ pub pointer_members : (p : Program) (t : Typed) (sorts : ℕ → Option Sort) (s
 pointer_members p t sorts sees at columns i a found e f h sa inside =
     let structure = pointed (left_type t i) in
     let size = row_cells t (chosen_row t i structure) in
+    let element = as_element t (type_at t.shapes (chosen_row t i structure)) in
     let one = seen_plain (pointed_member_of found) (λ u. refl) (at a) (at i) f h in
     let is = pointed_there p found (at a).type (at a).constant (row_at t a) (at i) one h in
-    subst (λ ps. IsGood p sorts sees (placed_op ps (work.PointerMember (cells_of t structure) (offset_in t structure (slice_index_or t.chosen i 0)) size) (access_of t i)) (place_sort p t i size)) (sym e)
-    (more.pointer_member p sorts sees a (cells_of t structure) (offset_in t structure (slice_index_or t.chosen i 0)) size (place_sort p t i size) (access_of t i) (value_as p t sorts at columns a sa ∙ ap Some is)
+    subst (λ ps. IsGood p sorts sees (placed_op ps (work.PointerMember (as_element t structure) (offset_in t structure (slice_index_or t.chosen i 0)) element) (access_of t i)) (place_sort p t i size)) (sym e)
+    (more.pointer_member p sorts sees a (as_element t structure) (offset_in t structure (slice_index_or t.chosen i 0)) element (place_sort p t i size) (access_of t i) (value_as p t sorts at columns a sa ∙ ap Some is)
     (place_worth p t i size inside.object) inside.within (place_uses p t i size inside.object))

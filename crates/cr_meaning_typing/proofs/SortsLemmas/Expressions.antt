@@ -37,8 +37,8 @@ use Rattle.cr_meaning.specs.declared.op.Sign.TheVariants as sign
 use Rattle.cr_meaning.specs.declared.op.Work.TheVariants as work
 use Rattle.cr_meaning.specs.declared.run.Limits.{Limits}
 use Rattle.cr_meaning_soundness.specs.Sorts.{cells, chars}
-use Rattle.cr_meaning_operations.specs.Shapes.{type_of_node, stride_of}
-use Rattle.cr_meaning_operations.specs.Operations.{node_op, placed, parts_at, part_at, kind_at, parts_if, left_type, right_type, either_stride, address_by, chosen_row, pointed, member, pointer_member, constant, constant_by, identifier_by, callee_of, shift, difference, comparison, updated_integers, updated_shift, updated_sum, op_by}
+use Rattle.cr_meaning_operations.specs.Shapes.{type_of_node, name_in, pointed_element}
+use Rattle.cr_meaning_operations.specs.Operations.{node_op, placed, parts_at, part_at, kind_at, parts_if, left_type, right_type, either_element, address_by, chosen_row, pointed, member, pointer_member, constant, constant_by, identifier_by, callee_of, shift, difference, comparison, updated_integers, updated_shift, updated_sum, op_by}
 use Rattle.cr_meaning_typing.specs.Typed.Good.{IsGood, value_sort, place_sort, row_at}
 use Rattle.cr_meaning_typing.specs.Typed.Typing.{is_expression}
 use Rattle.cr_meaning_typing.specs.Typed.Placed.{IsObject}
@@ -146,7 +146,7 @@ module _ (t : Typed) (limits : Limits) (j : Judgement) (sees : ℕ → ℕ → B
 
   -- ---- literals and brackets
 
-  text_good : kind_at t i ≡ kind.Text → Good (placed t i [] (work.Object i))
+  text_good : kind_at t i ≡ kind.Text → Good (placed t i [] (work.Object i (name_in t (type_of_node t i))))
   text_good is = by (j.fills i) refl
     where
       bytes : ℕ
@@ -158,14 +158,14 @@ module _ (t : Typed) (limits : Limits) (j : Judgement) (sees : ℕ → ℕ → B
       literal_has : (1 ≤ bytes) × (sees i i ≡ true)
       literal_has = founded.named.literals i runs is
 
-      by : (b : Bool) → j.fills i ≡ b → Good (placed t i [] (work.Object i))
+      by : (b : Bool) → j.fills i ≡ b → Good (placed t i [] (work.Object i (name_in t (type_of_node t i))))
       by true f =
           let l : (j.at i).lvalue ≡ true = ap (λ (o : Seen). o.lvalue) made in
-          subst (IsGood (p t limits j sees founded) (sorts t limits j sees founded) (sees i) (placed t i [] (work.Object i)))
+          subst (IsGood (p t limits j sees founded) (sorts t limits j sees founded) (sees i) (placed t i [] (work.Object i (name_in t (type_of_node t i)))))
           (sym ((λ k. if l k then (if f k then chars else place_sort (p t limits j sees founded) t i (size_at (p t limits j sees founded) t i)) else beside_sort (p t limits j sees founded) (row_at t i) (type_of_node t i))))
           (literal_filling t limits (sorts t limits j sees founded) (sees i) j.at founded.judged.columns i is literal_has.0 literal_has.1 (founded.laid.filled i f).1)
       by false f =
-          subst (IsGood (p t limits j sees founded) (sorts t limits j sees founded) (sees i) (placed t i [] (work.Object i)))
+          subst (IsGood (p t limits j sees founded) (sorts t limits j sees founded) (sees i) (placed t i [] (work.Object i (name_in t (type_of_node t i)))))
           (sym (own_place t limits j sees founded i bytes (ap (λ (o : Seen). o.lvalue) made) f (size_is t limits j sees founded i kind.Text is)))
           (literal_placed t limits (sorts t limits j sees founded) (sees i) j.at founded.judged.columns i is made literal_has.0 literal_has.1)
 
@@ -200,7 +200,7 @@ module _ (t : Typed) (limits : Limits) (j : Judgement) (sees : ℕ → ℕ → B
 
   -- ---- what is followed
 
-  dereference_good : kind_at t i ≡ kind.Dereference → Good (placed t i (parts_at t i) (work.Dereference (stride_of t (left_type t i))))
+  dereference_good : kind_at t i ≡ kind.Dereference → Good (placed t i (parts_at t i) (work.Dereference (pointed_element t (left_type t i))))
   dereference_good is =
       let f = ap form_of is in
       let c = complete (j.source i) i in
@@ -208,11 +208,11 @@ module _ (t : Typed) (limits : Limits) (j : Judgement) (sees : ℕ → ℕ → B
       let made : j.at i ≡ dereferenced c (value_of_seen (j.at x.a)) = rule form.Dereference f ∙ ap (λ s. dereferenced c (value_of_seen s)) (operand_is t limits j sees founded i 0 x.a n at x.first.is) in
       let value = as_value t limits j sees founded i n at runs expression form.Dereference 0 x.a f refl refl x.first (dereferenced c) (λ u. refl) made in
       let l : (j.at i).lvalue ≡ true = ap (λ (o : Seen). o.lvalue) made ∙ dereferenced_place c (value_of_seen (j.at x.a)) (sym (ap is_typed made) ∙ typed) in
-      subst (IsGood (p t limits j sees founded) (sorts t limits j sees founded) (sees i) (placed t i (parts_at t i) (work.Dereference (stride_of t (left_type t i)))))
+      subst (IsGood (p t limits j sees founded) (sorts t limits j sees founded) (sees i) (placed t i (parts_at t i) (work.Dereference (pointed_element t (left_type t i)))))
       (sym (own_place t limits j sees founded i _ l (no_filling t limits j sees founded i (ap (is_text t limits j sees founded) is)) (size_is t limits j sees founded i kind.Dereference is)))
       (followeds (p t limits j sees founded) t (sorts t limits j sees founded) (sees i) j.at c founded.judged.columns i x.a x.parts made typed value (founded.placed.cells i runs (ap is_followed is)))
 
-  subscript_good : kind_at t i ≡ kind.Subscript → Good (placed t i (parts_at t i) (work.Subscript (either_stride t (left_type t i) (right_type t i))))
+  subscript_good : kind_at t i ≡ kind.Subscript → Good (placed t i (parts_at t i) (work.Subscript (either_element t (left_type t i) (right_type t i))))
   subscript_good is =
       let f = ap form_of is in
       let c = complete (j.source i) i in
@@ -224,7 +224,7 @@ module _ (t : Typed) (limits : Limits) (j : Judgement) (sees : ℕ → ℕ → B
       let one = as_value t limits j sees founded i n at runs expression form.Subscript 0 x.a f refl refl x.first (λ v. subscripted c v vb) (λ u. refl) made in
       let other = as_value t limits j sees founded i n at runs expression form.Subscript 1 x.b f refl refl x.second (λ v. subscripted c va v) (λ u. ap is_typed (subscript_right c va u)) made in
       let l : (j.at i).lvalue ≡ true = ap (λ (o : Seen). o.lvalue) made ∙ subscripted_place c va vb (sym (ap is_typed made) ∙ typed) in
-      subst (IsGood (p t limits j sees founded) (sorts t limits j sees founded) (sees i) (placed t i (parts_at t i) (work.Subscript (either_stride t (left_type t i) (right_type t i)))))
+      subst (IsGood (p t limits j sees founded) (sorts t limits j sees founded) (sees i) (placed t i (parts_at t i) (work.Subscript (either_element t (left_type t i) (right_type t i)))))
       (sym (own_place t limits j sees founded i _ l (no_filling t limits j sees founded i (ap (is_text t limits j sees founded) is)) (size_is t limits j sees founded i kind.Subscript is)))
       (subscripts (p t limits j sees founded) t (sorts t limits j sees founded) (sees i) j.at c founded.judged.columns i x.a x.b x.parts made typed one other (founded.placed.cells i runs (ap is_followed is)))
 

@@ -3,6 +3,7 @@ use Rattle.std.proofs.Common.{◌≡◌, ℕ, zero, suc, ◌≤◌, ℤ, Bool, t
 use Rattle.cr_ints.specs.declared.kind.IntKind.{IntKind}
 use Rattle.cr_ints.specs.declared.kind.IntKind.TheVariants.{Int as IntegerKind}
 use Rattle.cr_ints.specs.IntKind.{Represents}
+use Rattle.cr_memory.specs.declared.value.Element.{Element}
 use Rattle.cr_meaning.specs.World.{Program}
 use Rattle.cr_meaning.specs.declared.op.Op.{Op}
 use Rattle.cr_meaning.specs.declared.op.Access.{Access}
@@ -76,7 +77,7 @@ module _ (p : Program) (sorts : ℕ → Option Sort) (sees : ℕ → Bool) where
         demands = ((refl, has it 0 a (number k) IsNumber refl h tt), has it 1 b (number l) IsNumber refl g tt);
       }
 
-  pub moved : (a b : ℕ) (l : IntKind) (back : Bool) (count : ℕ) → sorts a ≡ Some pointer → sorts b ≡ Some (number l)
+  pub moved : (a b : ℕ) (l : IntKind) (back : Bool) (count : Element) → sorts a ≡ Some pointer → sorts b ≡ Some (number l)
       → IsGood p sorts sees (node_op (a ∷ b ∷ []) (work.Binary (Move back count))) pointer
   moved a b l back count h g =
       let it = node_op (a ∷ b ∷ []) (work.Binary (Move back count)) in
@@ -85,7 +86,7 @@ module _ (p : Program) (sorts : ℕ → Option Sort) (sees : ℕ → Bool) where
         demands = inl ((refl, has it 0 a pointer IsPointerSort refl h tt), has it 1 b (number l) IsNumber refl g tt);
       }
 
-  pub moved_other : (a b : ℕ) (l : IntKind) (back : Bool) (count : ℕ) → sorts a ≡ Some (number l) → sorts b ≡ Some pointer
+  pub moved_other : (a b : ℕ) (l : IntKind) (back : Bool) (count : Element) → sorts a ≡ Some (number l) → sorts b ≡ Some pointer
       → IsGood p sorts sees (node_op (a ∷ b ∷ []) (work.Binary (Move back count))) pointer
   moved_other a b l back count h g =
       let it = node_op (a ∷ b ∷ []) (work.Binary (Move back count)) in
@@ -193,9 +194,9 @@ module _ (p : Program) (sorts : ℕ → Option Sort) (sees : ℕ → Bool) where
 
   -- ---- names
 
-  pub named : (declared : ℕ) (access : Access) (own : Sort) → IsValue own → 1 ≤ length (p.shape declared) → GivesObject p access declared own → sees declared ≡ true
-      → IsGood p sorts sees (record { parts = []; work = work.Object declared; access = access }) own
-  named declared access own v some g h = record { typed = record { gives = (v, (some, g)); parts = none_there }; demands = (refl, h) }
+  pub named : (declared of : ℕ) (access : Access) (own : Sort) → IsValue own → 1 ≤ length (p.shape declared) → GivesObject p access declared own → sees declared ≡ true
+      → IsGood p sorts sees (record { parts = []; work = work.Object declared of; access = access }) own
+  named declared of access own v some g h = record { typed = record { gives = (v, (some, g)); parts = none_there }; demands = (refl, h) }
 
   -- ---- calls of the program's functions
 

@@ -18,7 +18,7 @@ use Rattle.cr_meaning.specs.declared.op.Operator.{Operator}
 use Rattle.cr_meaning.specs.declared.op.Operator.TheVariants as operator
 use Rattle.cr_meaning.specs.declared.op.Change.TheVariants.{Arithmetic as Arithmetical}
 use Rattle.cr_meaning.specs.declared.op.Work.TheVariants as work
-use Rattle.cr_meaning_operations.specs.Shapes.{type_of_node, value_type, as_value, kind_in, cells_of}
+use Rattle.cr_meaning_operations.specs.Shapes.{type_of_node, value_type, as_value, kind_in, as_element}
 use Rattle.cr_meaning_operations.specs.Operations.{node_op, parts_at, change_of, common_kind, integers as integers_op, sum as sum_op}
 use Rattle.cr_meaning_soundness.specs.Sorts.{Sort, number}
 use Rattle.cr_meaning_typing.specs.Typed.Good.{IsGood, value_sort, row_at}
@@ -134,16 +134,16 @@ module _ (p : Program) (t : Typed) (sorts : ℕ → Option Sort) (sees : ℕ →
       (good.integers p sorts sees a b l r (common_of l r) operator.Add sa sb)
   sum_good (to u v x) (plain (Int r) w z) c d own e h sa sb =
       subst (λ o. IsGood p sorts sees (sum_by t a b (to u v x) (plain (Int r) w z)) (value_sort p row o)) (sym (moved_typed s i x own (complete s i x) refl e h))
-      (good.moved p sorts sees a b r false (cells_of t x) sa sb)
+      (good.moved p sorts sees a b r false (as_element t x) sa sb)
   sum_good (array n x) (plain (Int r) w z) c d own e h sa sb =
       subst (λ o. IsGood p sorts sees (sum_by t a b (array n x) (plain (Int r) w z)) (value_sort p row o)) (sym (moved_typed s i x own (complete s i x) refl e h))
-      (good.moved p sorts sees a b r false (cells_of t x) sa sb)
+      (good.moved p sorts sees a b r false (as_element t x) sa sb)
   sum_good (plain (Int l) u v) (to w z y) c d own e h sa sb =
       subst (λ o. IsGood p sorts sees (sum_by t a b (plain (Int l) u v) (to w z y)) (value_sort p row o)) (sym (moved_typed s i y own (complete s i y) refl e h))
-      (good.moved_other p sorts sees a b l false (cells_of t y) sa sb)
+      (good.moved_other p sorts sees a b l false (as_element t y) sa sb)
   sum_good (plain (Int l) u v) (array n y) c d own e h sa sb =
       subst (λ o. IsGood p sorts sees (sum_by t a b (plain (Int l) u v) (array n y)) (value_sort p row o)) (sym (moved_typed s i y own (complete s i y) refl e h))
-      (good.moved_other p sorts sees a b l false (cells_of t y) sa sb)
+      (good.moved_other p sorts sees a b l false (as_element t y) sa sb)
   sum_good x y c d own e h sa sb = absurd (false≢true (sym (ap (λ (o : Seen). is_type o.type) e) ∙ h))
 
 pub sums : (p : Program) (t : Typed) (sorts : ℕ → Option Sort) (sees : ℕ → Bool) (at : ℕ → Seen) (s : Source) → AreColumns t at → (i a b : ℕ)

@@ -60,7 +60,7 @@ names p t sorts sees i h s =
     let row = row_at t i in
     let valued = slice_index_or t.valued i false in
     let type = type_of_node t i in
-    good.named p sorts sees (entity_of t i) (access_of t i) (place_sort p t i count) (worth_at p t row count valued type h.object) h.some
+    good.named p sorts sees (entity_of t i) (name_in t (named_type t (entity_of t i))) (access_of t i) (place_sort p t i count) (worth_at p t row count valued type h.object) h.some
     (gives_at p t row count (entity_of t i) valued type refl h.object) s
 
 -- ---- statements

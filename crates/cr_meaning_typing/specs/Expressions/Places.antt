@@ -16,8 +16,8 @@ use Rattle.cr_meaning.specs.declared.op.Work.TheVariants as work
 use Rattle.cr_meaning.specs.declared.run.Limits.{Limits}
 use Rattle.cr_meaning_soundness.specs.Sorts.{Sort, place, cells, chars}
 use Rattle.cr_meaning_soundness.specs.Rules.{IsWithin}
-use Rattle.cr_meaning_operations.specs.Shapes.{type_of_node, cells_of, stride_of, form_of, offset_in}
-use Rattle.cr_meaning_operations.specs.Operations.{node_op, placed, parts_at, kind_at, left_type, right_type, either_stride, address_by, pointed, chosen_row, member, pointer_member, constant, program_of}
+use Rattle.cr_meaning_operations.specs.Shapes.{type_of_node, cells_of, name_in, pointed_element, form_of, offset_in}
+use Rattle.cr_meaning_operations.specs.Operations.{node_op, placed, parts_at, kind_at, left_type, right_type, either_element, address_by, pointed, chosen_row, member, pointer_member, constant, program_of}
 use Rattle.cr_meaning_typing.specs.Typed.Good.{IsGood, place_sort, row_at}
 use Rattle.cr_meaning_typing.specs.Typed.Columns.{AreColumns, IsValueAt, IsGoodAt}
 use Rattle.cr_meaning_typing.specs.Typed.Placed.{IsObject}
@@ -39,8 +39,8 @@ ConstantsAreGood = (p : Program) (t : Typed) (sorts : ℕ → Option Sort) (sees
 abbrev pub LiteralsAreGood : Type 0
 LiteralsAreGood = (t : Typed) (limits : Limits) (sorts : ℕ → Option Sort) (sees : ℕ → Bool) (at : ℕ → Seen) → AreColumns t at → (i : ℕ)
     → kind_at t i ≡ kind.Text → at i ≡ text_of (length (slice_index_or t.texts i [])) → 1 ≤ length (slice_index_or t.texts i []) → sees i ≡ true
-    → IsGood (program_of t limits) sorts sees (placed t i [] (work.Object i)) (place_sort (program_of t limits) t i (length (slice_index_or t.texts i [])))
-    × (slice_index_or t.valued i false ≡ false → IsGood (program_of t limits) sorts sees (placed t i [] (work.Object i)) chars)
+    → IsGood (program_of t limits) sorts sees (placed t i [] (work.Object i (name_in t (type_of_node t i)))) (place_sort (program_of t limits) t i (length (slice_index_or t.texts i [])))
+    × (slice_index_or t.valued i false ≡ false → IsGood (program_of t limits) sorts sees (placed t i [] (work.Object i (name_in t (type_of_node t i)))) chars)
 
 abbrev pub GroupsAreGood : Type 0
 GroupsAreGood = (t : Typed) (limits : Limits) (sorts : ℕ → Option Sort) (sees : ℕ → Bool) (at : ℕ → Seen) → AreColumns t at → (i a count : ℕ)
@@ -56,7 +56,7 @@ abbrev pub SubscriptsAreGood : Type 0
 SubscriptsAreGood = (p : Program) (t : Typed) (sorts : ℕ → Option Sort) (sees : ℕ → Bool) (at : ℕ → Seen) (complete : Qualified → Bool) → AreColumns t at → (i a b : ℕ)
     → parts_at t i ≡ a ∷ b ∷ [] → at i ≡ subscripted complete (value_of_seen (at a)) (value_of_seen (at b)) → is_typed (at i) ≡ true
     → IsValueAt p t sorts a → IsValueAt p t sorts b → HasCells t i
-    → IsGood p sorts sees (placed t i (parts_at t i) (work.Subscript (either_stride t (left_type t i) (right_type t i)))) (place_sort p t i (cells_at t i))
+    → IsGood p sorts sees (placed t i (parts_at t i) (work.Subscript (either_element t (left_type t i) (right_type t i)))) (place_sort p t i (cells_at t i))
 
 -- ---- 6.5.2.3: members (K20, K21)
 
@@ -100,4 +100,4 @@ AddressesAreGood = (p : Program) (t : Typed) (sorts : ℕ → Option Sort) (sees
 abbrev pub FollowedAreGood : Type 0
 FollowedAreGood = (p : Program) (t : Typed) (sorts : ℕ → Option Sort) (sees : ℕ → Bool) (at : ℕ → Seen) (complete : Qualified → Bool) → AreColumns t at → (i a : ℕ)
     → parts_at t i ≡ a ∷ [] → at i ≡ dereferenced complete (value_of_seen (at a)) → is_typed (at i) ≡ true → IsValueAt p t sorts a → HasCells t i
-    → IsGood p sorts sees (placed t i (parts_at t i) (work.Dereference (stride_of t (left_type t i)))) (place_sort p t i (cells_at t i))
+    → IsGood p sorts sees (placed t i (parts_at t i) (work.Dereference (pointed_element t (left_type t i)))) (place_sort p t i (cells_at t i))

@@ -1,4 +1,4 @@
-use Rattle.std.proofs.Common.{◌≡◌, [], sym, ap, subst, ◌∙◌, IfOk, arith}
+use Rattle.std.proofs.Common.{◌≡◌, sym, ap, subst, ◌∙◌, IfOk, arith}
 use Rattle.cr_sequence.specs.Kept as kept
 use Rattle.cr_meaning_operations.specs.Shapes.{repeated}
 use Rattle.cr_exec_shapes.proofs.Parts.{repeated_none}

@@ -1,8 +1,9 @@
-use Rattle.std.proofs.Common.{◌≡◌, ◌<◌, ℕ, false, inl, inr, ap, sym, ◌∙◌, arith, slice_index_or}
+use Rattle.std.proofs.Common.{◌≡◌, inl, inr, ap, sym, ◌∙◌, arith, slice_index_or}
 use Rattle.std.proofs.lemmas.Bool.{cases_lt}
 use Rattle.cr_check_types.specs.Types.{type_at}
 use Rattle.cr_check_types.specs.Relations.{are_compatible}
 use Rattle.cr_check_types.proofs.Itself.{itself}
+use Rattle.cr_exec_shapes.specs.Open.{is_open}
 use Rattle.cr_exec_shapes.proofs.Listed.{is_before, none_before}
 use Rattle.cr_exec_shapes.proofs.numbers.first.Goals as goal
 
@@ -27,7 +28,7 @@ returns-then-are_compatible c =
       within = omega (arith, below);
       first = λ other lt. none_before t rows c.args.row at c.is_canonical.ensures c.requires.listed c.requires.within
           (sym c.requires.own ∙ c.if-own_open.false) c.loop-at.invariant other (omega (arith, lt, below))
-          (λ k within is. is_before t rows c.args.row at k c.requires.listed there within (omega (arith, is, lt)));
+          (λ k within is. is_before is_open t rows c.args.row at k c.requires.listed there within (omega (arith, is, lt)));
     }
 
 pub returns : goal.returns

@@ -1,6 +1,7 @@
 use Rattle.std.proofs.Common.{arith, rules, sym}
 use Rattle.cr_check_types.specs.Types.{types_of, type_at}
 use Rattle.cr_meaning_operations.specs.Shapes.{first_row}
+use Rattle.cr_exec_shapes.specs.Open.{is_open}
 use Rattle.cr_exec_shapes.proofs.Rows.{first_is_least, grown, numbers_all}
 use Rattle.cr_exec_shapes.proofs.Listed.{listed_more}
 use Rattle.cr_exec_shapes.proofs.numbers.numbers.Goals as goal
@@ -14,7 +15,7 @@ loop-row-preserved c =
       count = search rules;
       marks = search rules;
       marked = search rules;
-      listed = listed_more _ _ _ _ _ c.loop-row.invariant.listed c.is_open-is_open.ensures c.in_ok-list_if.ensures;
+      listed = listed_more is_open _ _ _ _ _ c.loop-row.invariant.listed c.is_open-is_open.ensures c.in_ok-list_if.ensures;
       each = λ k lt. rw c.in_ok-push.ensures.items
           (grown (λ row. first_row (types_of t) (type_at t row) 0) c.loop-row.numbers.items c.loop-row.row 0 _ c.loop-row.invariant.count c.loop-row.invariant.each
           (sym (first_is_least t c.loop-row.row _ (omega (arith, rows, under)) c.first.ensures)) k lt);

@@ -1,4 +1,4 @@
-use Rattle.std.proofs.Common.{◌≡◌, sym, subst, arith, rules, [], slice_index_or}
+use Rattle.std.proofs.Common.{sym, subst, rules, [], slice_index_or}
 use Rattle.cr_exec_shapes.specs.Types.{AreSums}
 use Rattle.cr_exec_shapes.proofs.Sums.{grown_all}
 use Rattle.cr_exec_shapes.proofs.offsets.offsets.Goals as goal

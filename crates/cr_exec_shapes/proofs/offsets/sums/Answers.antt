@@ -1,4 +1,4 @@
-use Rattle.std.proofs.Common.{◌≡◌, ◌∙◌, ◌++◌, ◌∷◌, [], ap, sym, subst, arith, rules, length, length-append, take, slice_index_or, sum_by}
+use Rattle.std.proofs.Common.{◌≡◌, ◌∙◌, ◌∷◌, [], ap, sym, subst, arith, length, length-append, take, slice_index_or, sum_by}
 use Rattle.std.proofs.lemmas.List.Sums.{sum_by_more}
 use Rattle.cr_typed.specs.Typed.{row_cells, MOST_CELLS}
 use Rattle.cr_exec_shapes.proofs.Rows.{grown, sum_fits}

@@ -1,0 +1,12 @@
+use Rattle.std.proofs.Common.{◌≡◌, ℕ, ◌<◌, length, slice_index_or}
+use Rattle.cr_check_types.specs.Types.{type_at}
+use Rattle.cr_exec_shapes.specs.Open.{is_array, AreListed}
+use Rattle.cr_meaning_operations.specs.Shapes.{name_in}
+use Rattle.cr_exec_shapes.proofs.names.names.Given as goal
+
+abbrev pub invariant-loop-row : goal.invariant-loop-row
+invariant-loop-row l = record {
+  count : length l.names.items ≡ l.row;
+  listed : AreListed is_array l.typed.shapes l.arrays.items l.row;
+  each : (k : ℕ) → k < l.row → slice_index_or l.names.items k 0 ≡ name_in l.typed (type_at l.typed.shapes k);
+}

@@ -1,0 +1,10 @@
+pub mod Lasting
+pub mod Good
+pub mod Memories
+pub mod Entering
+pub mod Working
+pub mod Ways
+pub mod Acting
+pub mod Running
+pub mod Own
+pub mod Units
