@@ -17,7 +17,7 @@ export SLURM_CONF=$folder/slurm.conf
 
 # One machine, as two nodes with half of its processors each.
 mkdir -p state spool.one spool.two /run/munge && chown munge:munge /run/munge
-[ -S /run/munge/munge.socket.2 ] || munged --force 2>munge.log
+[ -S /run/munge/munge.socket.2 ] || { munged --force 2>munge.log && cp /run/munge/munged.pid munged.pid; }
 half=$((($(nproc) + 1) / 2))
 cat >"$SLURM_CONF" <<CONF
 ClusterName=pair
@@ -42,20 +42,20 @@ NodeName=one NodeHostname=$host NodeAddr=127.0.0.1 Port=26818 CPUs=$half State=U
 NodeName=two NodeHostname=$host NodeAddr=127.0.0.1 Port=26819 CPUs=$half State=UNKNOWN
 PartitionName=all Nodes=one,two Default=YES MaxTime=INFINITE State=UP OverSubscribe=FORCE:4
 CONF
-ended() { for it in one two slurmctld; do [ ! -s $it.pid ] || kill "$(cat $it.pid)" 2>/dev/null; done; }
+ended() { for it in one two slurmctld munged; do [ ! -s $it.pid ] || kill "$(cat $it.pid)" 2>/dev/null; done; }
 trap 'cd "$folder" && ended; sleep 1; rm -rf "$folder"' EXIT
 slurmctld -f "$SLURM_CONF" && sleep 2 && slurmd -N one && slurmd -N two || exit 1
-for _ in $(seq 30); do [ "$(sinfo -h -t idle -o %D | paste -sd+ | bc)" = 2 ] && break; sleep 1; done
+for _ in $(seq 30); do [ "$(sinfo -h -N -t idle -o %N | wc -l)" = 2 ] && break; sleep 1; done
 sinfo -h -N -o '%N %t'
 
 sed 's|^test=.*|test=gcc_differs.sh|' "$here/../examples/tests/over_srun.sh" >over.sh && chmod +x over.sh
 
-# began PLACE WORDS..: a reduction of the case in a folder of this name, in the background; sets its number.
+# began PLACE WORDS..: a reduction of the case in a folder of this name, in the background, where it can be interrupted; sets its number.
 began() {
     local place=$1
     shift
     rm -rf "$place" && mkdir "$place" && cp "$clamp"/* over.sh "$place" && cd "$place" || exit 1
-    setsid "$program" "$@" thermostat.c >said 2>&1 &
+    setsid env --default-signal=INT "$program" "$@" thermostat.c >said 2>&1 &
     number=$!
     cd ..
 }
