@@ -165,7 +165,7 @@ fn behind<S: Subject<P::Prep>, P: Passes, L: Law, Q: Question>(
 
 /// Whether the last order is guessed to end by a yes, where a guess is worth an order.
 fn guess<T: Drop>(chain: &Chain<T>) -> Option<bool> {
-    if chain.links.len() as u64 >= chain.policy.threads.saturating_mul(DEPTH)
+    if chain.links.len() as u64 >= chain.policy.threads().saturating_mul(DEPTH)
         || !chain.policy.may_begin()
     {
         return None;
@@ -271,6 +271,9 @@ fn give<R: Wait, S: Subject<T>, T: Drop>(
     let Ok(file) = Arc::try_clone(&spot.file) else {
         return false;
     };
+    if !chain.policy.begin() {
+        return false;
+    }
     let ticket = chain.next;
     let place = Place {
         ticket,
@@ -279,11 +282,11 @@ fn give<R: Wait, S: Subject<T>, T: Drop>(
         file,
     };
     if !extend::<S, T>(&mut chain.links, ticket, spot) {
+        chain.policy.refund();
         return false;
     }
     chain.next = ticket.saturating_add(1);
     chain.out = chain.out.saturating_add(1);
-    chain.policy.begin();
     send_order(rt, lines, seat, Order::Try(place))
 }
 
@@ -306,7 +309,7 @@ pub fn feed<R: Wait, S: Subject<P::Prep>, P: Passes, L: Law, Q: Question>(
     ensures say { All (LinkSays S.orders S.replies) chain.new.links.items }
 {
     for _ in rt.forever() {
-        if chain.out >= chain.policy.threads {
+        if chain.out >= chain.policy.threads() {
             return;
         }
         let Some(spot) = next_spot::<S, P, L, Q>(alloc, task, chain, walk) else {

@@ -1,15 +1,17 @@
-// What the answers so far were, by which it is guessed. No clause rests on it.
+// What the answers so far were, by which it is guessed, and how many tests may be begun.
 ghost use Rattle.std.specs.Prelude.{◌≡◌, ◌+◌, ◌*◌, ◌≤◌, ◌<◌, ℕ};
+
+use std::marker::Model;
 
 /// How many of the last answers the guess of the next one is made by.
 const LAST: usize = 16;
 
-/// How many answers so far were a yes, and how many tests may be begun.
+/// How many answers so far were a yes, and how many orders were given whose test was begun, or may be begun yet: three for two answers that
+/// counted at most, and one for each thread. No other clause rests on it.
 #[derive(Drop)]
 pub struct Policy {
     /// How many tests may run at once.
-    pub threads: u64,
-    /// How many orders were given whose test was begun or may be begun yet.
+    threads: u64,
     begun: u64,
     /// How many answers counted.
     counted: u64,
@@ -17,6 +19,16 @@ pub struct Policy {
     last: [bool; LAST],
     next: usize,
     known: u64,
+}
+
+impl Model for Policy {
+    ghost use Rattle.std.specs.Prelude.{⊤, ◌+◌, ◌*◌, ◌≤◌};
+
+    ghost Value = { ⊤ };
+
+    ghost view = { λ p. tt };
+
+    ghost invariant = { λ p. 2 * p.begun ≤ 3 * p.counted + 2 * p.threads };
 }
 
 impl Policy {
@@ -34,6 +46,11 @@ impl Policy {
         policy
     }
 
+    /// How many tests may run at once.
+    pub fn threads(&self) -> u64 {
+        self.threads
+    }
+
     /// The chance, in thousandths, that the next answer is a yes.
     pub fn chance(&self) -> u64 {
         let mut yes = 0u64;
@@ -48,21 +65,21 @@ impl Policy {
             .min(980)
     }
 
-    /// Whether one more order is within the bound on tests: three for two answers that counted, and one for each thread.
+    /// Whether one more order may be given.
     pub fn may_begin(&self) -> bool {
-        let most = self
-            .counted
-            .saturating_mul(3)
-            .saturating_add(self.threads.saturating_mul(2));
-        self.begun.saturating_add(1).saturating_mul(2) <= most
+        self.begun < most_begun(self.counted, self.threads)
     }
 
-    /// An order is given.
-    pub fn begin(&mut self) {
-        self.begun = self.begun.saturating_add(1);
+    /// Gives one more order, if that may be. Answers whether it may.
+    pub fn begin(&mut self) -> bool {
+        if self.begun >= most_begun(self.counted, self.threads) {
+            return false;
+        }
+        self.begun += 1;
+        true
     }
 
-    /// An order ended without a test.
+    /// An order ended without a test, or wasn't given.
     pub fn refund(&mut self) {
         self.begun = self.begun.saturating_sub(1);
     }
@@ -81,4 +98,12 @@ impl Policy {
         self.next = at + 1;
         self.known = self.known.saturating_add(1).min(LAST as u64);
     }
+}
+
+/// How many orders may have been given, when so many answers have counted.
+fn most_begun(counted: u64, threads: u64) -> u64
+    ensures { 2 * result ≤ 3 * counted + 2 * threads }
+{
+    let for_answers = counted.saturating_mul(3);
+    for_answers.saturating_add(threads.saturating_mul(2)) / 2
 }

@@ -89,6 +89,7 @@ pub fn settle<R: Wait, S: Subject<P::Prep>, P: Passes, L: Law, Q: Question>(
     requires joined { AreJoined lines.now }
     requires seats { AreSeats lines.now seat.old }
     requires sound { IsSound (P.offers task.now.passes.now) (P.offer task.now.passes.now) walk.now }
+    requires below { walk.now.position < walk.now.count }
     requires say { All (LinkSays S.orders S.replies) chain.old.links.items }
     ensures seats { AreSeats lines.now seat.new }
     ensures say { All (LinkSays S.orders S.replies) chain.new.links.items }

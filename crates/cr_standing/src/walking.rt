@@ -6,7 +6,7 @@ ghost use Rattle.cr_standing_workers.specs.Channels.{AllNo, AreJoined, AreSeats}
 ghost use Rattle.cr_standing_workers.specs.Told.{IsAbout, searching_by};
 ghost use Rattle.cr_standing_workers.specs.declared.orders.Trial.{Trial};
 ghost use Rattle.cr_standing.specs.Crew.{LeavesSo, StepSays};
-ghost use Rattle.cr_standing.specs.Links.{LinkSays};
+ghost use Rattle.cr_standing.specs.Links.{FrontSays, LinkSays};
 ghost use Rattle.cr_standing.specs.Walk.{IsSound, Leads, standing_at};
 
 use crate::chain::{Chain, Front, commit, pass_by};
@@ -76,6 +76,51 @@ fn pass_over<S: Subject<P::Prep>, P: Passes, L: Law, Q: Question>(
     walk.position = to;
 }
 
+/// Goes on to what is known of the walk's next positions, as far as the window and the limit allow.
+fn go_to<S: Subject<P::Prep>, P: Passes, L: Law, Q: Question>(
+    alloc: Global,
+    task: &Task<'_, P, L, Q>,
+    plan: &Plan,
+    chain: &mut Chain<P::Prep>,
+    walk: &mut Walk<P::Prep>,
+    front: Front,
+) -> Step
+    requires about { IsAbout (searching_by P.Passes L.Law Q.Question task.now S.told) (P.offer task.now.passes.now) S.orders S.replies S.verdicts }
+    requires say { All (LinkSays S.orders S.replies) chain.old.links.items }
+    requires sound { IsSound (P.offers task.now.passes.now) (P.offer task.now.passes.now) walk.old }
+    requires front { FrontSays S.replies walk.old.file.items walk.old.position front }
+    requires window { (0 < plan.now.window) × (plan.now.window ≤ 4096) }
+    requires within { Within plan.now.limit walk.old.turns }
+    requires below { walk.old.position < walk.old.count }
+    requires more { plan.now.limit ≢ Some walk.old.turns }
+    ensures say { All (LinkSays S.orders S.replies) chain.new.links.items }
+    ensures leads { Leads (searching_by P.Passes L.Law Q.Question task.now S.told) (standing_at (P.offer task.now.passes.now) walk.old) (standing_at (P.offer task.now.passes.now) walk.new) }
+    ensures placed { walk.new.position ≤ length (cursors_of (P.offer task.now.passes.now (arc_value walk.new.shared).prep walk.new.file.items)) }
+    ensures within { Within plan.now.limit walk.new.turns }
+    ensures says { StepSays (searching_by P.Passes L.Law Q.Question task.now S.told) (P.offers task.now.passes.now) (P.offer task.now.passes.now) plan.now.limit walk.new result }
+{
+    let len = length_of(plan, walk.count - walk.position, walk.turns);
+    let end = walk.position + len;
+    match front {
+        Front::Past(to) => {
+            pass_over::<S, P, L, Q>(task, chain, walk, to.min(end));
+            Step::On
+        }
+        Front::Hit(at) if at < end => {
+            if take_found::<S, P, L, Q>(alloc, task, walk, at).is_err() {
+                return Step::Ends(Why::NoMemory);
+            }
+            commit::<S, P::Prep>(chain, true);
+            Step::On
+        }
+        Front::Hit(_) => {
+            pass_over::<S, P, L, Q>(task, chain, walk, end);
+            Step::On
+        }
+        Front::Unsure | Front::Open | Front::Other => Step::Unsure,
+    }
+}
+
 /// Looks at the walk's next positions, and goes on to where something was found out.
 fn look<R: Wait, S: Subject<P::Prep>, P: Passes, L: Law, Q: Question>(
     rt: &R,
@@ -103,25 +148,8 @@ fn look<R: Wait, S: Subject<P::Prep>, P: Passes, L: Law, Q: Question>(
     ensures within { Within plan.now.limit walk.new.turns }
     ensures says { StepSays (searching_by P.Passes L.Law Q.Question task.now S.told) (P.offers task.now.passes.now) (P.offer task.now.passes.now) plan.now.limit walk.new result }
 {
-    let end = walk.position + length_of(plan, walk.count - walk.position, walk.turns);
-    match settle(rt, alloc, task, lines, seat, plan, chain, walk) {
-        Front::Past(to) => {
-            pass_over::<S, P, L, Q>(task, chain, walk, to.min(end));
-            Step::On
-        }
-        Front::Hit(at) if at < end => {
-            if take_found::<S, P, L, Q>(alloc, task, walk, at).is_err() {
-                return Step::Ends(Why::NoMemory);
-            }
-            commit::<S, P::Prep>(chain, true);
-            Step::On
-        }
-        Front::Hit(_) => {
-            pass_over::<S, P, L, Q>(task, chain, walk, end);
-            Step::On
-        }
-        Front::Unsure | Front::Open | Front::Other => Step::Unsure,
-    }
+    let front = settle(rt, alloc, task, lines, seat, plan, chain, walk);
+    go_to::<S, P, L, Q>(alloc, task, plan, chain, walk, front)
 }
 
 /// Looks at the next positions, or begins a new round, or says why the walk has ended.
