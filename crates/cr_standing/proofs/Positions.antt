@@ -32,6 +32,9 @@ none_no R file a position low high = absurd (omega arith)
 pub no_joined : (R : List ℕ → ℕ → Trial → Type 0) (file : List ℕ) (a b c : ℕ) → AllNo R file a b → AllNo R file b c → AllNo R file a c
 no_joined R file a b c first second position low high = elim (dec_lt position b) [ yes lt ↦ first position low lt | no ge ↦ second position (omega arith) high ]
 
+pub no_fewer : (R : List ℕ → ℕ → Trial → Type 0) (file : List ℕ) (a b c : ℕ) → AllNo R file a b → c ≤ b → AllNo R file a c
+no_fewer R file a b c all less position low high = all position low (omega (arith, high, less))
+
 pub no_more : (R : List ℕ → ℕ → Trial → Type 0) (file : List ℕ) (a b c : ℕ) → AllNo R file a b → R file b No → c ≡ b + 1 → AllNo R file a c
 no_more R file a b c before here is position low high = elim (ℕ_discrete position b) [ yes e ↦ subst (λ p. R file p No) (sym e) here | no ne ↦ before position low (omega arith) ]
 

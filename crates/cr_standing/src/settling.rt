@@ -1,5 +1,6 @@
 // The walk's position is decided.
 ghost use Rattle.std.specs.Prelude.{◌≡◌, ◌<◌, All, length};
+ghost use Rattle.std.specs.Arc.{arc_value};
 ghost use Rattle.cr_standing_workers.specs.Channels.{AreJoined, AreSeats, IsTrue};
 ghost use Rattle.cr_standing_workers.specs.Told.{IsAbout, searching_by};
 ghost use Rattle.cr_standing.specs.Links.{FrontSays, LinkSays};
@@ -64,6 +65,18 @@ pub fn hear<R: Wait, S: Subject<T>, T: Drop>(
     true
 }
 
+/// What is known of the walk's position.
+fn front_of<S: Subject<T>, T: Drop>(chain: &Chain<T>, walk: &Walk<T>) -> Front
+    requires say { All (LinkSays S.orders S.replies) chain.now.links.items }
+    requires same { (arc_value walk.now.shared).bytes.items ≡ walk.now.file.items }
+    ensures { FrontSays S.replies walk.now.file.items walk.now.position result }
+{
+    if walk.position >= walk.count {
+        return Front::Other;
+    }
+    known_at::<S, T>(chain.links.as_slice(), &walk.shared, walk.position)
+}
+
 /// Drops all orders, where the first isn't one of the walk's position.
 fn drop_others<S: Subject<T>, T: Drop>(hint: &Hint, chain: &mut Chain<T>, known: Front)
     requires say { All (LinkSays S.orders S.replies) chain.old.links.items }
@@ -89,14 +102,13 @@ pub fn settle<R: Wait, S: Subject<P::Prep>, P: Passes, L: Law, Q: Question>(
     requires joined { AreJoined lines.now }
     requires seats { AreSeats lines.now seat.old }
     requires sound { IsSound (P.offers task.now.passes.now) (P.offer task.now.passes.now) walk.now }
-    requires below { walk.now.position < walk.now.count }
     requires say { All (LinkSays S.orders S.replies) chain.old.links.items }
     ensures seats { AreSeats lines.now seat.new }
     ensures say { All (LinkSays S.orders S.replies) chain.new.links.items }
     ensures front { FrontSays S.replies walk.now.file.items walk.now.position result }
 {
     for _ in rt.forever() {
-        let known = known_at::<S, P::Prep>(chain.links.as_slice(), &walk.shared, walk.position);
+        let known = front_of::<S, P::Prep>(chain, walk);
         if known != Front::Open && known != Front::Other {
             return known;
         }

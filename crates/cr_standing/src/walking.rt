@@ -1,5 +1,5 @@
 // The walk over the positions, as far as the workers decide them.
-ghost use Rattle.std.specs.Prelude.{◌≡◌, ◌≢◌, ◌<◌, ◌≤◌, ◌+◌, All, Some, None, OnErr, OnOk, length};
+ghost use Rattle.std.specs.Prelude.{◌≡◌, ◌≢◌, ◌<◌, ◌≤◌, ◌+◌, All, ℕ, Option, Some, None, OnErr, OnOk, length};
 ghost use Rattle.std.specs.Arc.{arc_value};
 ghost use Rattle.cr_reduce.specs.Reduction.{Within, cursors_of};
 ghost use Rattle.cr_standing_workers.specs.Channels.{AllNo, AreJoined, AreSeats};
@@ -53,24 +53,34 @@ pub fn take_found<S: Subject<P::Prep>, P: Passes, L: Law, Q: Question>(
     take(alloc, task.passes, walk, position, variant)
 }
 
-/// Goes over rejected positions, as far as this one.
+fn lesser(a: u64, b: u64) -> u64
+    ensures first { result ≤ a }
+    ensures second { result ≤ b }
+    ensures above { (n : ℕ) → n < a → n < b → n < result }
+{
+    if a < b { a } else { b }
+}
+
+/// Goes over rejected positions, up to the lesser of these two.
 fn pass_over<S: Subject<P::Prep>, P: Passes, L: Law, Q: Question>(
     task: &Task<'_, P, L, Q>,
     chain: &mut Chain<P::Prep>,
     walk: &mut Walk<P::Prep>,
     to: u64,
+    end: u64,
 )
     requires about { IsAbout (searching_by P.Passes L.Law Q.Question task.now S.told) (P.offer task.now.passes.now) S.orders S.replies S.verdicts }
     requires say { All (LinkSays S.orders S.replies) chain.old.links.items }
     requires sound { IsSound (P.offers task.now.passes.now) (P.offer task.now.passes.now) walk.old }
     requires after { walk.old.position < to }
-    requires within { to ≤ walk.old.count }
+    requires ends { (walk.old.position < end) × (end ≤ walk.old.count) }
     requires rejected { AllNo S.replies walk.old.file.items walk.old.position to }
     ensures say { All (LinkSays S.orders S.replies) chain.new.links.items }
     ensures sound { IsSound (P.offers task.now.passes.now) (P.offer task.now.passes.now) walk.new }
     ensures leads { Leads (searching_by P.Passes L.Law Q.Question task.now S.told) (standing_at (P.offer task.now.passes.now) walk.old) (standing_at (P.offer task.now.passes.now) walk.new) }
-    ensures turns { walk.new.turns + walk.old.position ≡ walk.old.turns + to }
+    ensures within { (limit : Option ℕ) (len : ℕ) → end ≡ walk.old.position + len → Within limit (walk.old.turns + len) → Within limit walk.new.turns }
 {
+    let to = lesser(to, end);
     pass_by::<S, P::Prep>(chain, to);
     walk.turns += to - walk.position;
     walk.position = to;
@@ -103,18 +113,18 @@ fn go_to<S: Subject<P::Prep>, P: Passes, L: Law, Q: Question>(
     let end = walk.position + len;
     match front {
         Front::Past(to) => {
-            pass_over::<S, P, L, Q>(task, chain, walk, to.min(end));
+            pass_over::<S, P, L, Q>(task, chain, walk, to, end);
             Step::On
         }
-        Front::Hit(at) if at < end => {
-            if take_found::<S, P, L, Q>(alloc, task, walk, at).is_err() {
-                return Step::Ends(Why::NoMemory);
+        Front::Hit(at) if at < end => match take_found::<S, P, L, Q>(alloc, task, walk, at) {
+            Ok(()) => {
+                commit::<S, P::Prep>(chain, true);
+                Step::On
             }
-            commit::<S, P::Prep>(chain, true);
-            Step::On
-        }
-        Front::Hit(_) => {
-            pass_over::<S, P, L, Q>(task, chain, walk, end);
+            Err(_) => Step::Ends(Why::NoMemory),
+        },
+        Front::Hit(at) => {
+            pass_over::<S, P, L, Q>(task, chain, walk, at, end);
             Step::On
         }
         Front::Unsure | Front::Open | Front::Other => Step::Unsure,
