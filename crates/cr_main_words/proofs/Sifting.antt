@@ -1,12 +1,14 @@
 -- The words before the first --, and those without the flags.
-use Rattle.std.proofs.Common.{◌≡◌, ◌+◌, ◌||◌, ℕ, Bool, true, false, not, List, [], ◌∷◌, ◌++◌, codes, cond, drop, filter, length, map, nat_lt, take, Some, None, String, string_bytes, unwrap_or, inl, inr, refl, sym, ap, ◌∙◌, subst, arith}
+use Rattle.std.proofs.Common.{◌≡◌, ◌+◌, ◌||◌, ℕ, Bool, true, false, not, List, [], ◌∷◌, ◌++◌, codes, cond, drop, filter, length, map, nat_lt, take, slice_get, Option, Some, None, String, string_bytes, unwrap_or, inl, inr, refl, sym, ap, ◌∙◌, subst, arith}
 use Rattle.std.specs.List.{count_by, position, position_or_len}
+use Rattle.std.specs.Option.{option_map}
 use Rattle.std.specs.Str.{bytes_eq}
 use Rattle.std.specs.Global.{Global}
 use Rattle.std.proofs.lemmas.Bool.Decides.{nat_tests}
 use Rattle.std.proofs.lemmas.List.{drop-map, take-append-drop, take-map}
+use Rattle.std.proofs.lemmas.Option.{slice_get-map}
 use Rattle.std.proofs.lemmas.List.Sums.{prefix_len-le-length, sum_by-cons, take_while-cons}
-use Rattle.cr_main_words.specs.Flags.{flag_words, from_end, in_front, is_end, is_flag, is_labelled, label_count, rest_of, times}
+use Rattle.cr_main_words.specs.Flags.{flag_words, from_end, in_front, is_end, is_flag, is_labelled, first_label, label_count, rest_of, times}
 use Rattle.cr_main_words.specs.Words.{IsAmong, Said, Tells, Word, option_names, texts_of}
 use Rattle.cr_main_words.proofs.Results.{fit_names}
 use Rattle.cr_main_words.proofs.Scan.{scan, told_is_read}
@@ -47,6 +49,20 @@ rest_is list now others behind end all last first is =
     let front = first ∙ ap (filter (λ w. not (is_flag w))) (sym (front_is list end is)) in
     let back = ap texts_of last ∙ sym (behind_is list end is) in
     all ∙ ap (λ t. t ++ texts_of behind) front ∙ ap (λ t. filter (λ w. not (is_flag w)) (in_front (texts_of list)) ++ t) back
+
+-- ---- the label
+
+-- the first word with a label, among those in front
+pub label_at : (list front : List (String Global)) (at : ℕ) → in_front (texts_of list) ≡ texts_of front → at ≡ position_or_len (λ word. is_labelled (string_bytes word)) front
+    → first_label (texts_of list) ≡ option_map (λ word. drop 10 (string_bytes word)) (slice_get front at)
+label_at list front at front_is at_is =
+    ap (λ words. option_map (λ word. drop 10 word) (slice_get words (position_or_len is_labelled words))) front_is
+    ∙ ap (λ n. option_map (λ word. drop 10 word) (slice_get (texts_of front) n)) (position_or_len-map string_bytes is_labelled front ∙ sym at_is)
+    ∙ ap (option_map (λ word. drop 10 word)) (slice_get-map string_bytes front at) ∙ twice (slice_get front at)
+  where
+    twice : (o : Option (String Global)) → option_map (λ word. drop 10 word) (option_map string_bytes o) ≡ option_map (λ word. drop 10 (string_bytes word)) o
+    twice None = refl
+    twice (Some word) = refl
 
 -- ---- where no word is a flag
 

@@ -1,6 +1,6 @@
 -- The flags of the command line.
-use Rattle.std.specs.Prelude.{◌≡◌, ℕ, ◌==◌, Bool, true, false, not, ◌&&◌, ◌||◌, nat_le, List, [], ◌∷◌, ◌++◌, codes, cond, drop, filter, Option, None, Some, take}
-use Rattle.std.specs.List.{before_first, count_by, find, list_all, list_any, position_or_len}
+use Rattle.std.specs.Prelude.{◌≡◌, ℕ, ◌==◌, Bool, true, false, not, ◌&&◌, ◌||◌, nat_le, List, [], ◌∷◌, ◌++◌, codes, cond, drop, filter, Option, None, Some, slice_get, take}
+use Rattle.std.specs.List.{before_first, count_by, list_all, list_any, position_or_len}
 use Rattle.std.specs.Option.{option_map}
 use Rattle.std.specs.Str.{bytes_eq}
 use Rattle.cr_main_words.specs.Words.{Word}
@@ -70,7 +70,7 @@ abbrev pub label_count : List Word → ℕ
 label_count words = count_by is_labelled (in_front words)
 
 abbrev pub first_label : List Word → Option Word
-first_label words = option_map (λ word. drop 10 word) (find is_labelled (in_front words))
+first_label words = option_map (λ word. drop 10 word) (slice_get (in_front words) (position_or_len is_labelled (in_front words)))
 
 -- the words ask for this label, or for none: one word does at most, and the label is an identifier
 abbrev pub GivesLabel : List Word → Option Word → Type 0

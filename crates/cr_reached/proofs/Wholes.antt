@@ -24,6 +24,7 @@ module _ (p : Program) (began whole : List Bool) (op : Op) (own : Bool) (h : Are
   to_whole : (is_set began (length whole) && own) ≡ true → IsWhole p began (length whole)
   to_whole both node (itself same) = subst (λ n. is_set began n ≡ true) (sym same) (and_parts (is_set began (length whole)) own both).0
   to_whole both node (within {part = part} {place = place} {op = other} is part_is more) =
+      let both_are : Some op ≡ Some other = sym at ∙ is in
       let same : op ≡ other = cc in
       let there : slice_get (own_of op) place ≡ Some part = subst (λ o. slice_get (own_of o) place ≡ Some part) (sym same) part_is in
       let set = all_at whole (own_of op) (sym all.is ∙ (and_parts (is_set began (length whole)) own both).1) place part there in
