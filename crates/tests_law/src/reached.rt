@@ -15,7 +15,7 @@ lawful 0¦int main(void){A:;return 0;}
 left 9 2¦int f(void){\nA:return 1;}int main(void){return 0;}
 left 9 2¦int main(void){goto B;\nA:;B:return 0;}
 lawful 0¦int x;int main(void){A:sizeof x;return 0;}
-lawful 0¦int f(void);int main(void){A:sizeof f();return 0;}
+lawful 0¦int f(void){return 1;}int main(void){A:sizeof f();return 0;}
 lawful 1¦int f(void){A:return 1;}int g(void){A:return 2;}int main(void){return f();}
 lawful 2¦int f(void){A:return 1;}int g(void){A:return 2;}int main(void){return g();}
 left 9 2¦int x;int f(void){\nA:return 1;}int g(void){\nA:return x&&x;}int main(void){return g();}
@@ -63,7 +63,7 @@ lawful 0¦struct s{int a,b[2];}s,*p=&s;int main(void){A:p->b[s.a]=(int)s.a;retur
 // What has a reason by the other law has that one, and not N9.
 const FIRST: &str = r#"
 undefined 2 2¦int main(void){\nreturn 1/0;}
-left 1 1¦int main(void){for(;;);}
+left 5 1¦int x=1;int main(void){return *(unsigned*)&x;}
 type 42 1¦int main(void){goto C;return 0;}
 "#;
 
