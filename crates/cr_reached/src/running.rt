@@ -61,6 +61,30 @@ fn run_in_order<S: Stop>(
     }
 }
 
+fn run_watched<S: Stop>(
+    alloc: Global,
+    typed: &Typed,
+    table: &Table,
+    any_order: bool,
+    stop: &mut S,
+    watch: ReachWatch,
+) -> (Run, Option<u32>, ReachWatch)
+    requires unstopped { S.raised stop.old ≡ false }
+    requires fresh { KnowsBegun watch (program_of table.now) [] }
+    ensures meant { has_come result.0 ≡ true → Means (program_of table.now) result.0 }
+    ensures stopped { result.0 ≡ Run.Stopped → S.raised stop.new ≡ true }
+    ensures held { S.held stop.new ≡ S.held stop.old }
+    ensures looked { Looked result.0 table.now.limits.steps (S.looks stop.old) (S.looks stop.new) }
+    ensures judged { has_come result.0 ≡ true → IsJudgedIf any_order (program_of table.now) (around (outer_of typed.now)) result.0 result.1 }
+    ensures marked { has_come result.0 ≡ true → IsRunMarked (program_of table.now) result.0 result.2.began.items }
+{
+    if any_order {
+        run_in_order(alloc, typed, table, stop, watch)
+    } else {
+        run_alone(alloc, table, stop, watch)
+    }
+}
+
 /// Runs a typed unit's program as `run` of `cr_exec` does, and marks the nodes that are evaluated; where it is asked for, it finds the
 /// first node or initialiser list whose operands see one another.
 pub(crate) fn run_reached<S: Stop>(
@@ -78,13 +102,11 @@ pub(crate) fn run_reached<S: Stop>(
     ensures judged { has_come result.0 ≡ true → IsJudgedIf any_order (program_of table.now) (around (outer_of typed.now)) result.0 result.1 }
     ensures marked { has_come result.0 ≡ true → IsRunMarked (program_of table.now) result.0 result.2.items }
 {
-    let Ok(watch) = ReachWatch::new(alloc, table.ops.len()) else {
-        return (Run::NoMemory, None, Vec::new(alloc));
-    };
-    let (run, loose, watch) = if any_order {
-        run_in_order(alloc, typed, table, stop, watch)
-    } else {
-        run_alone(alloc, table, stop, watch)
-    };
-    (run, loose, watch.began)
+    match ReachWatch::new(alloc, table.ops.len()) {
+        Ok(watch) => {
+            let (run, loose, watch) = run_watched(alloc, typed, table, any_order, stop, watch);
+            (run, loose, watch.began)
+        }
+        Err(_) => (Run::NoMemory, None, Vec::new(alloc)),
+    }
 }
