@@ -31,7 +31,9 @@ fn is_reached(
     ensures some { IfSome result (λ found. found ≡ true → (label : ℕ) × IsLabel typed.now name.now label × IsWhole (program_in table.now) began.now label) }
     ensures none { IfSome result (λ found. found ≡ false → (label : ℕ) → IsLabel typed.now name.now label → IsWhole (program_in table.now) began.now label → ⊥) }
 {
-    let whole = whole_of(alloc, table, began).ok()?;
+    let Ok(whole) = whole_of(alloc, table, began) else {
+        return None;
+    };
     if whole.len() < typed.nodes.len() {
         return None;
     }
