@@ -137,7 +137,7 @@ word_fault() {
             name=--reached value=''
             if [ "$rule" = places_fault ]; then
                 [[ $seen != *' --reached '* ]] || { echo '--reached stands twice'; return; }
-                [[ $1 =~ ^--reached=[A-Za-z_][A-Za-z0-9_]*$ ]] || { echo "--reached takes a label, as in --reached=NAME, and not \"${1#--reached}\""; return; }
+                [[ $1 =~ ^--reached=[A-Za-z_][A-Za-z0-9_]*$ ]] || { echo "--reached takes an identifier, as in --reached=NAME, and not \"$1\""; return; }
                 seen+='--reached ' && shift && continue
             fi ;;
         --*=*) name=${1%%=*} value=${1#*=} ;;
