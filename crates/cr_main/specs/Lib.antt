@@ -4,3 +4,4 @@ pub mod Run
 pub mod Headline
 pub mod Laws
 pub mod More
+pub mod Said

@@ -1,12 +1,6 @@
 // What words ask for is done.
 ghost use Rattle.std.specs.Prelude.{◌≡◌, MatchOption, drop, false, length, string_bytes, true};
-ghost use Rattle.cr_formula.specs.Forms.{Form, Spells, form_of};
-ghost use Rattle.cr_outside.specs.Test.{asks_test};
-ghost use Rattle.cr_reduce.specs.Bench.{judging, keys_of, says_of};
-ghost use Rattle.cr_main.specs.More.{BeginsWithIf, Does, IsFormula, IsQuiet, LeavesOthers, MayRun, RunsAsked, word_of};
-ghost use Rattle.cr_main.specs.Task.{IsRunnable};
-ghost use Rattle.cr_main_task.specs.Outside.{outside};
-ghost use Rattle.cr_main_words.specs.Requests.{Suits};
+ghost use Rattle.cr_main.specs.Said.{BeginsWithIf, Does, Form, IsFormula, IsQuiet, IsRunnable, LeavesOthers, MayRun, RunsAsked, Spells, Suits, asks_test, form_of, judging, keys_of, outside, says_of, word_of};
 
 use crate::given::run_in_modes;
 use crate::messages::put_usage;

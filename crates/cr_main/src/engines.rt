@@ -1,14 +1,6 @@
 // A task is run on what words name, by the engines that keep nothing.
 ghost use Rattle.std.specs.Prelude.{◌≡◌, ◌<◌, ◌≤◌, ℕ, List, drop, false, length};
-ghost use Rattle.cr_outside.specs.Story.{files_told};
-ghost use Rattle.cr_reduce.specs.Bench.{judging, keys_of, says_of};
-ghost use Rattle.cr_main_standing.specs.Standing.{by_standing};
-ghost use Rattle.cr_main_task.specs.Opening.{RunsBound};
-ghost use Rattle.cr_main_task.specs.Outside.{outside};
-ghost use Rattle.cr_main_task.specs.Run.{by_epochs};
-ghost use Rattle.cr_main_task.specs.Task.{IsOfPrograms, task_at};
-ghost use Rattle.cr_main.specs.Task.{IsMakeable, text_of};
-ghost use Rattle.cr_main_words.specs.Names.{name_of};
+ghost use Rattle.cr_main.specs.Said.{IsMakeable, IsOfPrograms, RunsBound, by_epochs, by_standing, files_told, judging, keys_of, name_of, outside, says_of, task_at, text_of};
 
 use crate::source::open_source;
 use cr_cursor::{Law, Passes};

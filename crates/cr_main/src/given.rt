@@ -1,16 +1,6 @@
 // A reduction behind the words: its law, its task, its engine.
 ghost use Rattle.std.specs.Prelude.{◌≡◌, ℕ, List, drop, false, length};
-ghost use Rattle.cr_lawful.specs.Lawful.{IsLawful, limits_of};
-ghost use Rattle.cr_outside.specs.Story.{files_told};
-ghost use Rattle.cr_outside.specs.Test.{asks_test};
-ghost use Rattle.cr_reduce.specs.Bench.{judging, keys_of, says_of};
-ghost use Rattle.cr_main_task.specs.Outside.{outside};
-ghost use Rattle.cr_main_task.specs.Run.{RunsTask};
-ghost use Rattle.cr_main_task.specs.Task.{IsOfPrograms};
-ghost use Rattle.cr_main.specs.More.{RunsIn, RunsPlain};
-ghost use Rattle.cr_main.specs.Task.{IsRunnable, IsTaskOf, asked_by, law_by, marks_of, task_of, text_of};
-ghost use Rattle.cr_main_words.specs.Names.{IsOwnName, name_of};
-ghost use Rattle.cr_main_words.specs.Requests.{Suits};
+ghost use Rattle.cr_main.specs.Said.{IsLawful, IsOfPrograms, IsOwnName, IsRunnable, IsTaskOf, RunsIn, RunsPlain, RunsTask, Suits, asked_by, asks_test, files_told, judging, keys_of, law_by, limits_of, marks_of, name_of, outside, says_of, task_of, text_of};
 
 use crate::engines::{run_by_epochs, run_by_standing};
 use crate::names::own_name;

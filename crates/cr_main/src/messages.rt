@@ -1,6 +1,5 @@
 // What the program puts on its output where it runs nothing.
-ghost use Rattle.cr_main.specs.Messages.{usage_line};
-ghost use Rattle.cr_main_task.specs.Outside.{Says};
+ghost use Rattle.cr_main.specs.Said.{Says, usage_line};
 
 use cr_main_task::{put, status};
 use cr_outside::Sink;

@@ -1,12 +1,6 @@
 // The top call, with all that words may ask for.
 ghost use Rattle.std.specs.Prelude.{◌≡◌, ◌⊎◌, length};
-ghost use Rattle.cr_outside.specs.Story.{EndsWithFault};
-ghost use Rattle.cr_reduce.specs.Bench.{judging, keys_of, says_of};
-ghost use Rattle.cr_main_task.specs.Outside.{outside};
-ghost use Rattle.cr_main_task.specs.Story.{KeepsJournal};
-ghost use Rattle.cr_main.specs.Headline.{Promises};
-ghost use Rattle.cr_main.specs.More.{AsksForJournal, AsksMore, CompletesMore, EndsMore, IsPlain, IsSilent, KeepsMore, KeepsToAsked, RunsMore, SurvivesMore};
-ghost use Rattle.cr_main_words.specs.Words.{texts_of};
+ghost use Rattle.cr_main.specs.Said.{AsksForJournal, AsksMore, CompletesMore, EndsMore, EndsWithFault, IsPlain, IsSilent, KeepsJournal, KeepsMore, KeepsToAsked, Promises, RunsMore, SurvivesMore, judging, keys_of, outside, says_of, texts_of};
 
 use crate::asked::run_request;
 use crate::messages::put_usage;

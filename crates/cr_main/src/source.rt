@@ -1,11 +1,6 @@
 // The bytes that words name.
 ghost use Rattle.std.specs.Prelude.{◌≡◌, IfErr, IfOk};
-ghost use Rattle.cr_outside.specs.Story.{files_told};
-ghost use Rattle.cr_main_task.specs.Opening.{IsOpened, Unopened};
-ghost use Rattle.cr_main_task.specs.Outside.{outside};
-ghost use Rattle.cr_main_task.specs.Task.{IsOfPrograms};
-ghost use Rattle.cr_main.specs.Task.{IsMakeable, saves_of, text_of};
-ghost use Rattle.cr_main_words.specs.Names.{name_of};
+ghost use Rattle.cr_main.specs.Said.{IsMakeable, IsOfPrograms, IsOpened, Unopened, files_told, name_of, outside, saves_of, text_of};
 
 use cr_cursor::Law;
 use cr_gen::make;

@@ -1,12 +1,6 @@
 // The top call.
 ghost use Rattle.std.specs.Prelude.{◌≡◌, ◌⊎◌, length};
-ghost use Rattle.cr_outside.specs.Story.{EndsWithFault};
-ghost use Rattle.cr_reduce.specs.Bench.{judging, keys_of, says_of};
-ghost use Rattle.cr_main_task.specs.Outside.{outside};
-ghost use Rattle.cr_main_task.specs.Story.{KeepsJournal};
-ghost use Rattle.cr_main.specs.Headline.{AsksOnly, Completes, HasEnded, IsHeadline, KeepsFiles, KeepsToWorkers, NeedsNoFiles, NeedsNoJudge};
-ghost use Rattle.cr_main.specs.Run.{Runs};
-ghost use Rattle.cr_main_words.specs.Words.{texts_of};
+ghost use Rattle.cr_main.specs.Said.{AsksOnly, Completes, EndsWithFault, HasEnded, IsHeadline, KeepsFiles, KeepsJournal, KeepsToWorkers, NeedsNoFiles, NeedsNoJudge, Runs, judging, keys_of, outside, says_of, texts_of};
 
 use crate::given::run_given;
 use crate::messages::put_usage;
