@@ -21,7 +21,7 @@ export CREDUCE_QUIET=1 LC_ALL=C program top
 
 # ruled PROGRAM SEED: the end, what it says, and whether the run is gcc's
 ruled() {
-    local status=0 same=
+    local status=0 same=''
     timeout 300 "$1" --limit 0 "has:int main" "$2.c" >"$2.said" 2>&1 || status=$?
     if [ "$status" = 7 ]; then
         timeout 300 "$1" --limit 0 "if:and(ends($(cat "$2.end")),prints(\"$(cat "$2.out")\n\"))" "$2.c" >/dev/null 2>&1 || same=$?
@@ -152,7 +152,7 @@ rule_one() {
 
 # a lawful program: alike, or a line that says what differs
 run_one() {
-    local number=$1 wanted= found flags k=0 status
+    local number=$1 wanted='' found flags k=0 status
     for flags in "gcc -O0" "gcc -O2" "clang -O0" "clang -O2" "gcc -O1 -fsanitize=undefined,address" "clang -O1 -fsanitize=undefined,address"; do
         k=$((k + 1)) status=0
         # shellcheck disable=SC2086

@@ -102,7 +102,7 @@ module _ (cells : Place → Bool) (one other : Memory) (h : Agree cells one othe
   same_distance : (left right : Pointer) → Same (distance one left right) (distance other left right)
   same_distance left right = same_then _ _ _ _ (same_differ cells one other h left right) (λ by. refl)
 
-  same_both_fit : {A : Type 0} (count : ℕ) (left right : Value) (r r' : Result A Trap) → Same r r' → Same (if_both_fit count left right r) (if_both_fit count left right r')
+  same_both_fit : {A : Type 0} (count : Element) (left right : Value) (r r' : Result A Trap) → Same r r' → Same (if_both_fit count left right r) (if_both_fit count left right r')
   same_both_fit count left right r r' k =
       same_unless (misfit_value count left) _ _ _ _ (λ e. e) (λ e. same_unless (misfit_value count right) _ _ _ _ (λ f. f) (λ f. k))
 

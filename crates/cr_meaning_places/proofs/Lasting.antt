@@ -4,19 +4,19 @@ use Rattle.std.proofs.lemmas.Bool.{cases_eq}
 use Rattle.cr_memory.specs.declared.value.Pointer.{Pointer}
 use Rattle.cr_memory.specs.declared.value.Scalar.{Scalar}
 use Rattle.cr_memory.specs.declared.value.Guard.{Guard}
-use Rattle.cr_memory.specs.Memory.{Object, Memory, live_object, without_object}
+use Rattle.cr_memory.specs.Memory.{Object, Memory, live_object, count_of, without_object}
 use Rattle.cr_memory.specs.Access.{some_object}
 use Rattle.cr_memory.specs.Continues.{Continues}
 use Rattle.cr_meaning.specs.World.{Program}
 use Rattle.cr_meaning_soundness.proofs.Worlds.{gone}
-use Rattle.cr_meaning_places.specs.Places.{HasShape, AreStrings, IsObjectOf, IsDeclared, null, whole, strings, member, pointed, first, moved}
+use Rattle.cr_meaning_places.specs.Places.{HasShape, HasCount, AreStrings, IsObjectOf, IsDeclared, null, whole, strings, member, pointed, first, moved}
 
 pub record Lasts (old new : Memory) : Type 0 where
   pub entered : length old.objects ≤ length new.objects
-  pub shapes : (n : ℕ) (live : Object) → n < length old.objects → live_object new n ≡ Some live → (before : Object) × ((live_object old n ≡ Some before) × (live.shape ≡ before.shape))
+  pub shapes : (n : ℕ) (live : Object) → n < length old.objects → live_object new n ≡ Some live → (before : Object) × ((live_object old n ≡ Some before) × ((live.shape ≡ before.shape) × (length live.cells ≡ length before.cells)))
 
 pub lasts_refl : (memory : Memory) → Lasts memory memory
-lasts_refl memory = record { entered = omega arith; shapes = λ n live h e. (live, (e, refl)) }
+lasts_refl memory = record { entered = omega arith; shapes = λ n live h e. (live, (e, (refl, refl))) }
 
 pub lasts_onward : (one two three : Memory) → Lasts one two → Lasts two three → Lasts one three
 lasts_onward one two three f s =
@@ -27,7 +27,7 @@ lasts_onward one two three f s =
       shapes = λ n live h now.
           let b = s.shapes n live (omega arith) now in
           let a = f.shapes n b.0 h b.1.0 in
-          (a.0, (a.1.0, b.1.1 ∙ a.1.1));
+          (a.0, (a.1.0, (b.1.1.0 ∙ a.1.1.0, b.1.1.1 ∙ a.1.1.1)));
     }
 
 pub live_again : (o : Option Object) → is_some o ≡ true → (live : Object) × (o ≡ Some live)
@@ -41,13 +41,14 @@ lasts_by old new c = record {
       let b = c.objects n h in
       let o = live_again (live_object old n) (sym b.lives ∙ ap is_some e) in
       let same : live.shape ≡ o.0.shape = sym (ap (λ x. (some_object x).shape) e) ∙ (b.shape ∙ ap (λ x. (some_object x).shape) o.1) in
-      (o.0, (o.1, same));
+      let many : length live.cells ≡ length o.0.cells = sym (ap count_of e) ∙ (b.count ∙ ap count_of o.1) in
+      (o.0, (o.1, (same, many)));
 }
 
 pub lasts_without : (memory : Memory) (number : ℕ) → Lasts memory (without_object memory number)
 lasts_without memory number = record {
   entered = omega (arith, length-set memory.objects number None);
-  shapes = λ n live h e. (live, (gone memory.objects number n live (cases_eq n number) e, refl));
+  shapes = λ n live h e. (live, (gone memory.objects number n live (cases_eq n number) e, (refl, refl)));
 }
 
 -- ---- what is said of objects stays
@@ -58,7 +59,7 @@ shape_later old new object shape l h =
     let e' = h.entered in
     record {
       entered = omega arith;
-      same = λ live now. let b = l.shapes object live h.entered now in b.1.1 ∙ h.same b.0 b.1.0;
+      same = λ live now. let b = l.shapes object live h.entered now in b.1.1.0 ∙ h.same b.0 b.1.0;
     }
 
 pub strings_later : (p : Program) (old new : Memory) (object : ℕ) (kind : Scalar) → Lasts old new → AreStrings p old object kind → AreStrings p new object kind
@@ -77,9 +78,17 @@ pub object_later : (p : Program) (old new : Memory) (declared object : ℕ) → 
 object_later p old new declared object l (inl h) = inl (shape_later old new object (p.shape declared) l h)
 object_later p old new declared object l (inr h) = inr (h.0, strings_later p old new object h.0 l h.1)
 
+entered_of : (p : Program) (memory : Memory) (declared object : ℕ) → IsObjectOf p memory declared object → object < length memory.objects
+entered_of p memory declared object (inl h) = h.entered
+entered_of p memory declared object (inr h) = h.1.has.entered
+
+count_later : (old new : Memory) (object count : ℕ) → Lasts old new → object < length old.objects → HasCount old object count → HasCount new object count
+count_later old new object count l below h live now = let b = l.shapes object live below now in b.1.1.1 ∙ h b.0 b.1.0
+
 pub declared_later : (p : Program) (old new : Memory) (at : Pointer) → Lasts old new → IsDeclared p old at → IsDeclared p new at
 declared_later p old new at l (null) = null
-declared_later p old new at l (whole node declared object count of op e w h) = whole node declared object count of op e w (object_later p old new declared object l h)
+declared_later p old new at l (whole node declared object count of op e w h c) =
+    whole node declared object count of op e w (object_later p old new declared object l h) (count_later old new object count l (entered_of p old declared object h) c)
 declared_later p old new at l (strings object kind h) = strings object kind (strings_later p old new object kind l h)
 declared_later p old new at l (member node part structure before own form op place e w f g s d) =
     member node part structure before own form op place e w f g s (declared_later p old new place l d)

@@ -1,5 +1,5 @@
 -- A node's own work: the pointers of its value, and what it writes, are declared places.
-use Rattle.std.proofs.Common.{◌≡◌, ℕ, ◌==◌, Bool, true, false, not, ◌&&◌, ◌||◌, ℤ, pos, ◌⊎◌, inl, inr, Option, Some, None, Result, Ok, Err, IfOk, List, [], ◌∷◌, length, take, drop, slice_get, if◌then◌else◌, refl, sym, subst}
+use Rattle.std.proofs.Common.{◌≡◌, ℕ, ◌==◌, Bool, true, false, not, ◌&&◌, ◌||◌, ℤ, pos, ◌⊎◌, inl, inr, Option, Some, None, Result, Ok, Err, IfOk, List, [], ◌∷◌, length, take, drop, slice_get, if◌then◌else◌, refl, sym, ap, subst}
 use Rattle.std.specs.Prelude.{int_le, unsigned_abs, ◌+ℤ◌, ◌*ℤ◌}
 use Rattle.std.proofs.lemmas.Bool.{eqb-true}
 use Rattle.cr_ints.specs.declared.kind.IntKind.{IntKind}
@@ -174,7 +174,7 @@ object_place : (p : Program) (node : ℕ) (op : Op) (declared of : ℕ) (memory 
     → ((object : ℕ) → o ≡ Some object → IsThere p memory declared object) → IfOk (place_of memory o of) (IsPlaced p memory (work.Object declared of))
 object_place p node op declared of memory None i h = tt
 object_place p node op declared of memory (Some object) i h =
-    (whole node declared object (count_of (live_object memory object)) of op i.op_is i.work_is (h object refl).is, refl)
+    (whole node declared object (count_of (live_object memory object)) of op i.op_is i.work_is (h object refl).is (λ live e. sym (ap count_of e)), refl)
 
 kept_of : (own : Element) (at new : Pointer) (by : ℤ) → moved_by at by ≡ Ok new → misfits own at ≡ false → IsTo new (λ of. of ≡ own.of)
 kept_of own Null new by e fits = absurd (cc e)

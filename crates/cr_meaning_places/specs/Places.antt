@@ -25,6 +25,10 @@ pub record HasShape (memory : Memory) (object : ℕ) (shape : List (Scalar × Gu
   pub entered : object < length memory.objects
   pub same : (live : Object) → live_object memory object ≡ Some live → live.shape ≡ shape
 
+-- so many cells
+abbrev pub HasCount : Memory → ℕ → ℕ → Type 0
+HasCount memory object count = (live : Object) → live_object memory object ≡ Some live → length live.cells ≡ count
+
 -- the array of one null pointer to which main's second parameter points (5.1.2.2.1p2)
 pub record AreStrings (p : Program) (memory : Memory) (object : ℕ) (kind : Scalar) : Type 0 where
   pub node : ℕ
@@ -76,7 +80,7 @@ whole_of object count of =
 pub data IsDeclared (p : Program) (memory : Memory) : Pointer → Type 0 where
   null : IsDeclared p memory Null
   whole : (node declared object count of : ℕ) (op : Op) → slice_get p.ops node ≡ Some op → op.work ≡ work.Object declared of → IsObjectOf p memory declared object
-      → IsDeclared p memory (whole_of object count of)
+      → HasCount memory object count → IsDeclared p memory (whole_of object count of)
   strings : (object : ℕ) (kind : Scalar) → AreStrings p memory object kind → IsDeclared p memory (At object 0 0 1 (scalar_element kind))
   member : (node part structure before : ℕ) (own : Element) (form : Form) (op : Op) (at : Pointer) → slice_get p.ops node ≡ Some op
       → op.work ≡ work.Member structure before own form → slice_get op.parts 0 ≡ Some part → IsTo at (Gives p part) → strays structure at ≡ false
