@@ -13,7 +13,7 @@ use Rattle.cr_meaning.specs.World.{Program}
 use Rattle.cr_meaning.specs.declared.op.Access.TheVariants as access
 use Rattle.cr_meaning.specs.declared.op.Form.{Form}
 use Rattle.cr_meaning.specs.declared.op.Target.{Target}
-use Rattle.cr_meaning_operations.specs.Shapes.{type_of_node, cells_of, access_by, access_of, name_in}
+use Rattle.cr_meaning_operations.specs.Shapes.{type_of_node, cells_of, access_by, access_of, name_in, named_type}
 use Rattle.cr_meaning_operations.specs.Operations.{entity_of, identifier_by}
 use Rattle.cr_meaning_soundness.specs.Sorts.{Sort, place}
 use Rattle.cr_meaning_soundness.specs.Statements.{in_block}
