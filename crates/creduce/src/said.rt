@@ -1,0 +1,60 @@
+// What is said on standard error when a run has ended.
+use crate::one_run::Ended;
+use cr_explain::{Seen, TestSeen, explanation, places_of, refused};
+use std::alloc::AllocError;
+use std::os::unix::fs::MetadataExt;
+use std::{env, fs};
+
+/// Says what a person needs beside the status and the program's line, where quiet isn't asked for. What can't be said stays unsaid.
+pub fn explain(rt: &HostRuntime, words: &[String], ended: &Ended) -> Result<(), AllocError> {
+    let is_quiet = match env::var(rt, "CREDUCE_QUIET") {
+        Ok(quiet) => quiet.as_str() == "1",
+        Err(_) => false,
+    };
+    if is_quiet || !matches!(ended.status, 2..=6 | 8 | 13 | 14) {
+        return Ok(());
+    }
+    let put = String::from_utf8_lossy(rt.alloc(), ended.put.as_slice())?;
+    let line = put.as_str().trim_end();
+    let places = places_of(rt.alloc(), words)?;
+    let test = places.first().copied().unwrap_or("");
+    let named = match refused(line) {
+        Some(refused) => refused.name,
+        None => places.get(1).copied().unwrap_or(""),
+    };
+    // A word in no form may name anything, a pipe too.
+    let file = match ended.status {
+        2 => None,
+        _ => fs::read(rt, named).ok(),
+    };
+    let folder = env::var(rt, "PWD").ok();
+    let bytes = match ended.status {
+        8 => fs::read(rt, test).ok(),
+        _ => None,
+    };
+    let seen = Seen {
+        folder: folder.as_ref().map_or(".", |folder| folder.as_str()),
+        file: file.as_ref().map(|file| file.as_slice()),
+        test: test_seen(rt, test, bytes.as_ref()),
+        documents: "docs",
+    };
+    let text = explanation(rt.alloc(), words, ended.status, line, seen)?;
+    let _ = eprint!(rt; "{text}");
+    Ok(())
+}
+
+fn test_seen<'a>(rt: &HostRuntime, test: &str, bytes: Option<&'a Vec<u8>>) -> TestSeen<'a> {
+    let Ok(found) = fs::metadata(rt, test) else {
+        return TestSeen::Absent;
+    };
+    if found.is_dir() {
+        return TestSeen::Folder;
+    }
+    if found.mode() & 0o111 == 0 {
+        return TestSeen::Locked;
+    }
+    match bytes.and_then(|bytes| bytes.as_slice().split(|b| *b == b'\n').next()) {
+        Some(first) => TestSeen::Startable(first),
+        None => TestSeen::Unseen,
+    }
+}
