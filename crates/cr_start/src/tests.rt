@@ -1,6 +1,7 @@
 use crate::finding::test_word;
 use crate::holder::{folders_in, holder_in, holder_text};
 use crate::journal_words::{JournalWords, words_in, words_text};
+use crate::program::documents_of;
 use crate::quoting::quoted;
 use std::alloc::{AllocError, Global};
 
@@ -77,6 +78,22 @@ fn the_test_is_found_among_the_words(rt: HostRuntime) -> Result<(), AllocError> 
             words.push(String::from_str(alloc, word)?)?;
         }
         assert!(rt; test_word(words.as_slice()) == Some(wanted), "{line}");
+    }
+    Ok(())
+}
+
+#[test]
+fn the_documents_are_found_from_the_program(rt: HostRuntime) -> Result<(), AllocError> {
+    for (program, wanted) in [
+        ("/a b/crates/creduce/out/creduce", "/a b/docs"),
+        ("/top/release/creduce", "/top/docs"),
+        ("/usr/local/bin/creduce", "/usr/local/share/creduce/docs"),
+        ("/tmp/tried", "docs"),
+    ] {
+        assert!(rt;
+            documents_of(rt.alloc(), program)?.as_str() == wanted,
+            "{program}"
+        );
     }
     Ok(())
 }

@@ -9,7 +9,7 @@ use cr_main::run_more;
 use cr_main_words::{Engine, Modes, Request, Settings, Source, request_of};
 use cr_outside::Test;
 use cr_pool::Bench;
-use cr_start::{JournalWords, test_word};
+use cr_start::{JournalWords, Plain, test_word};
 use creduce_system::{ProcessJudge, Progress, Shown, StdDisk, StdOut, columns};
 use std::alloc::AllocError;
 use std::io::IsTerminal;
@@ -156,8 +156,18 @@ fn begin(
     if is_over(&ended) {
         // What stays there all the same is a smaller file that passed the test.
         let _ = progress.remove(rt, rt.alloc());
+    } else {
+        say_best(rt, run, &progress);
     }
     Ok(ended)
+}
+
+// Says where the smallest variant is, where the run could not put its result.
+fn say_best(rt: &HostRuntime, run: &Subject<'_>, progress: &Progress<'_>) {
+    if let Some(name) = run.name.filter(|_| !run.is_quiet && progress.has_kept(rt)) {
+        let name = Plain(name);
+        let _ = eprintln!(rt; "creduce: the smallest variant that passed the test is {name}.best");
+    }
 }
 
 fn refused(rt: &HostRuntime) -> Ended {

@@ -1,9 +1,14 @@
 // What is said on standard error when a run has ended.
 use crate::one_run::Ended;
 use cr_explain::{Seen, TestSeen, explanation, places_of, refused};
+use cr_start::documents_of;
+use creduce_system::read_most;
 use std::alloc::AllocError;
 use std::os::unix::fs::MetadataExt;
 use std::{env, fs};
+
+/// The most bytes that are read of a file to say what is wrong with it: more than one that is reduced may have.
+const MOST: usize = 1 << 25;
 
 /// Says what a person needs beside the status and the program's line, where quiet isn't asked for. What can't be said stays unsaid.
 pub fn explain(rt: &HostRuntime, words: &[String], ended: &Ended) -> Result<(), AllocError> {
@@ -25,22 +30,30 @@ pub fn explain(rt: &HostRuntime, words: &[String], ended: &Ended) -> Result<(), 
     // A word in no form may name anything, a pipe too.
     let file = match ended.status {
         2 => None,
-        _ => fs::read(rt, named).ok(),
+        _ => read_most(rt, rt.alloc(), named, MOST).ok(),
     };
     let folder = env::var(rt, "PWD").ok();
     let bytes = match ended.status {
-        8 => fs::read(rt, test).ok(),
+        8 => read_most(rt, rt.alloc(), test, MOST).ok(),
         _ => None,
     };
+    let documents = documents(rt)?;
     let seen = Seen {
         folder: folder.as_ref().map_or(".", |folder| folder.as_str()),
         file: file.as_ref().map(|file| file.as_slice()),
         test: test_seen(rt, test, bytes.as_ref()),
-        documents: "docs",
+        documents: documents.as_str(),
     };
     let text = explanation(rt.alloc(), words, ended.status, line, seen)?;
     let _ = eprint!(rt; "{text}");
     Ok(())
+}
+
+fn documents(rt: &HostRuntime) -> Result<String, AllocError> {
+    match rt.canonicalize(rt.alloc(), "/proc/self/exe") {
+        Ok(program) => documents_of(rt.alloc(), program.as_str()),
+        Err(_) => documents_of(rt.alloc(), ""),
+    }
 }
 
 fn test_seen<'a>(rt: &HostRuntime, test: &str, bytes: Option<&'a Vec<u8>>) -> TestSeen<'a> {

@@ -33,7 +33,7 @@ pub use process_judge::ProcessJudge;
 pub use progress::{Progress, Shown};
 pub use standard::hold_standard;
 pub use std_disk::StdDisk;
-pub use std_files::StdFiles;
+pub use std_files::{StdFiles, read_most};
 pub use std_out::StdOut;
 pub use sums::sum_of;
 pub use watchman::{Watchman, watch};

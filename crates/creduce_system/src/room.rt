@@ -5,7 +5,7 @@ use crate::faults::{allowing, fault_of};
 use crate::older::keep_away;
 use cr_place::{Place, PlaceFault};
 use std::alloc::Global;
-use std::fs::{self, File, OpenOptions};
+use std::fs::{self, File, Metadata, OpenOptions};
 use std::io::{self, ErrorKind, Write};
 use std::os::fd::AsRawFd;
 use std::os::unix::fs::{MetadataExt, OpenOptionsExt};
@@ -30,6 +30,11 @@ pub struct Room<'a, R> {
     mode: u32,
 }
 
+// The device and the number, by which a folder is known.
+fn number_of(found: &Metadata) -> (u64, u64) {
+    (found.dev(), found.ino())
+}
+
 impl<'a, R> Room<'a, R> {
     /// No folder was made yet. What is put there has this mode.
     pub fn new(rt: &'a R, mode: u32) -> Room<'a, R> {
@@ -47,9 +52,12 @@ impl<R: Clock + Clone + Drop + SystemFiles<File = File>> Room<'_, R> {
         let Some(own) = self.own else {
             return Ok(false);
         };
+        // What a test may have put in its place, as a pipe, isn't opened.
+        if number_of(&fs::symlink_metadata(self.rt, folder)?) != own {
+            return Ok(false);
+        }
         let open = fs::open(self.rt, folder)?;
-        let found = open.metadata()?;
-        if (found.dev(), found.ino()) != own {
+        if number_of(&open.metadata()?) != own {
             return Ok(false);
         }
         let within = format!(in alloc; "/proc/self/fd/{}", open.as_raw_fd())?;
@@ -72,8 +80,7 @@ impl<R: Clock + Clone + Drop + SystemFiles<File = File>> Room<'_, R> {
             keep_away(self.rt, alloc, folder)?;
         }
         fs::create_dir(self.rt, folder)?;
-        let made = fs::symlink_metadata(self.rt, folder)?;
-        self.own = Some((made.dev(), made.ino()));
+        self.own = Some(number_of(&fs::symlink_metadata(self.rt, folder)?));
         Ok(())
     }
 

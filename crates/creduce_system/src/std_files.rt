@@ -107,7 +107,7 @@ impl<R: SystemFiles<File = File>> StdFiles<'_, R> {
     fn put_reduced(&mut self, alloc: Global, name: &str, bytes: &[u8]) -> io::Result<()>
         ensures { self.new.faults ≡ self.old.faults }
     {
-        if is_changed(self.rt, alloc, name, bytes)? {
+        if self.is_changed(alloc, name, bytes)? {
             self.was_changed = true;
             return Err(io::Error::from(ErrorKind::InvalidData));
         }
@@ -126,6 +126,29 @@ impl<R: SystemFiles<File = File>> StdFiles<'_, R> {
         let text = words_text(alloc, words)?;
         let path = format!(in alloc; "{name}{}", Ending::JournalWords.text())?;
         put_beside(self.rt, alloc, path.as_str(), text.as_bytes())
+    }
+
+    // Whether the file has other bytes than its copy, than these, and than the result that the journal's words name. One that isn't there has
+    // none to lose.
+    fn is_changed(&self, alloc: Global, name: &str, bytes: &[u8]) -> io::Result<bool> {
+        let there = match read_most(self.rt, alloc, name, MOST) {
+            Err(e) if e.kind() == ErrorKind::NotFound => return Ok(false),
+            read => read?,
+        };
+        if there.as_slice() == bytes || self.is_result(alloc, there.as_slice())? {
+            return Ok(false);
+        }
+        let copy = format!(in alloc; "{name}{COPY}")?;
+        Ok(read_most(self.rt, alloc, copy.as_str(), MOST)?.as_slice() != there.as_slice())
+    }
+
+    // Whether these are the bytes of the result that the journal's words name: of a run that had ended and is gone on with.
+    fn is_result(&self, alloc: Global, bytes: &[u8]) -> io::Result<bool> {
+        let noted = self.words.as_ref().and_then(|words| words.result.as_ref());
+        match noted {
+            Some(noted) => Ok(noted.as_str() == sum_of_bytes(alloc, bytes)?.as_str()),
+            None => Ok(false),
+        }
     }
 
     // Writes the copy of a file, with that file's mode. Whatever stands in its place with other bytes is kept.
@@ -161,24 +184,6 @@ fn has_bytes<R: SystemFiles<File = File>>(
         return Ok(false);
     }
     Ok(read_most(rt, alloc, name, bytes.len())?.as_slice() == bytes)
-}
-
-// Whether the file has other bytes than its copy and than these. One that isn't there has none to lose.
-fn is_changed<R: SystemFiles<File = File>>(
-    rt: &R,
-    alloc: Global,
-    name: &str,
-    bytes: &[u8],
-) -> io::Result<bool> {
-    let there = match read_most(rt, alloc, name, MOST) {
-        Err(e) if e.kind() == ErrorKind::NotFound => return Ok(false),
-        read => read?,
-    };
-    if there.as_slice() == bytes {
-        return Ok(false);
-    }
-    let copy = format!(in alloc; "{name}{COPY}")?;
-    Ok(read_most(rt, alloc, copy.as_str(), MOST)?.as_slice() != there.as_slice())
 }
 
 // Writes a file that may be a link. One that its user may not write is refused, though its folder might take another.
