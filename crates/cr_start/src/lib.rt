@@ -19,6 +19,6 @@ pub use finding::test_word;
 pub use holder::{folders_in, holder_in, holder_text};
 pub use journal_words::{JournalWords, words_in, words_text};
 pub use lines::Saying;
-pub use program::documents_of;
+pub use program::{documents_of, recorded};
 pub use quoting::{Plain, quoted};
 pub use refusal::{Refusal, refusal_of};

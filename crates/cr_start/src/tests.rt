@@ -1,7 +1,7 @@
 use crate::finding::test_word;
 use crate::holder::{folders_in, holder_in, holder_text};
 use crate::journal_words::{JournalWords, words_in, words_text};
-use crate::program::documents_of;
+use crate::program::{documents_of, recorded};
 use crate::quoting::quoted;
 use std::alloc::{AllocError, Global};
 
