@@ -95,5 +95,7 @@ fn the_documents_are_found_from_the_program(rt: HostRuntime) -> Result<(), Alloc
             "{program}"
         );
     }
+    let record = "creduce 1.0\nprogram 0a1b\nprogram-date 2\n";
+    assert!(rt; recorded(record, "program") == Some("0a1b") && recorded(record, "kit").is_none());
     Ok(())
 }

@@ -8,10 +8,12 @@ mod journal;
 mod one_run;
 mod refused;
 mod said;
+mod version;
 mod watched;
 
 use crate::one_run::run;
 use crate::said::explain;
+use crate::version::version;
 use creduce_system::hold_standard;
 use std::alloc::AllocError;
 use std::process::ExitCode;
@@ -41,6 +43,12 @@ fn words(rt: &HostRuntime) -> Result<Vec<String>, AllocError> {
 
 fn answer(rt: &HostRuntime, threads: &(impl Threads + Wait + Sync)) -> Result<u8, AllocError> {
     let words = words(rt)?;
+    if words
+        .first()
+        .is_some_and(|word| word.as_str() == "--version")
+    {
+        return version(rt);
+    }
     let ended = run(rt, threads, &words)?;
     explain(rt, words.as_slice(), &ended)?;
     Ok(ended.status)
