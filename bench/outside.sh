@@ -1,14 +1,16 @@
 #!/usr/bin/env bash
 # Tries what stands around the proved program, situation by situation, on the program itself, and prints what it found: what is seen first and
-# said with status 1, the trial folders, closed streams, kills, copies and their modes, and the order in which files come to the disk.
-# By hand only: bench/outside.sh. CREDUCE=PROGRAM takes another program than the launcher at the top. It takes about two minutes, wants gcc,
-# and, for what a user may not write, to be called by root; strace, where it is there, shows the order of a cut of the power.
+# said with status 1, words, refusals, the trial folders, closed streams, names, kills, copies and their modes, progress, a full disk, and
+# what a cut of the power leaves. By hand only: bench/outside.sh. CREDUCE=PROGRAM takes another program than the launcher at the top, of which
+# bench/outside.sh tries what belongs to it. It takes about five minutes and wants gcc. Called by root it also tries what a user may not
+# write, and a cut of the power on a disk that is a file; strace, where it is there, shows the order in which files come to the disk.
+# shellcheck disable=SC2016 # conditions are evaluated where they are judged
 set -u
 top=$(cd "$(dirname "${BASH_SOURCE[0]}")/.." && pwd)
 program=$(readlink -f "${CREDUCE:-$top/creduce}")
 base=$(mktemp -d)
-failed=0 tried=0 number=0
-trap 'rm -rf "$base"' EXIT
+wrong=0 tried=0 number=0 status=0 out='' err=''
+trap 'cd / && umount "$base"/*/on "$base"/*/cut 2>/dev/null; rm -rf "$base"' EXIT
 chmod 755 "$base"
 
 # fresh: a folder of its own for the next tries.
@@ -30,7 +32,17 @@ call() {
 # is WHAT CONDITION: notes whether a condition holds.
 is() {
     tried=$((tried + 1))
-    if eval "$2"; then echo "ok: $1"; else echo "FAILED: $1: status $status, output: $out, errors: $err" && failed=1; fi
+    if eval "$2"; then echo "ok: $1"; else wrong=$((wrong + 1)) && echo "FAILED: $1: status $status, output: ${out:0:300}, errors: ${err:0:300}"; fi
+}
+
+# within SECONDS CONDITION: waits until a condition holds, for so long at most.
+within() {
+    local left=$(($1 * 20))
+    until eval "$2"; do
+        left=$((left - 1))
+        [ "$left" -gt 0 ] || return 1
+        sleep 0.05
+    done
 }
 
 says() { [[ $err == *"$1"* ]]; }
@@ -41,6 +53,7 @@ kept() { [ "$(<f.c)" = "$text" ]; }
 mode() { stat -c %a "$1"; }
 
 # ---- what is seen first: status 1, one line, and nothing changed
+fresh && call --limit 0 has:main f.c
 fresh && mkdir d && call ./t.sh d
 is 'FILE is a folder' '[ $status = 1 ] && says "creduce: d is a folder, and no file"'
 mkfifo p && call ./t.sh p
@@ -79,6 +92,68 @@ if [ "$(id -u)" = 0 ] && command -v setpriv >/dev/null; then
 else
     echo "not tried: what a user may not write, since this isn't root"
 fi
+
+# ---- a test that can't be started: status 8, which says why, and nothing changed
+fresh && call ./none.sh f.c
+is 'TEST is absent' '[ $status = 8 ] && says "There is no ./none.sh" && kept'
+mkdir folder.sh && call ./folder.sh f.c
+is 'TEST is a folder' '[ $status = 8 ] && says "./folder.sh is a folder" && kept'
+printf '#!/bin/sh\n' >locked.sh && call ./locked.sh f.c
+is 'TEST may not be executed' '[ $status = 8 ] && says "chmod +x" && kept'
+printf '#!/bin/sh\r\nexit 0\n' >crlf.sh && chmod +x crlf.sh && call ./crlf.sh f.c
+is 'the first line of TEST ends with CR LF' '[ $status = 8 ] && says "CR LF" && kept'
+call f.c ./t.sh
+is 'TEST and FILE swapped' '[ $status -gt 1 ] && says "TEST comes first, then FILE" && says t.sh && kept'
+call ./t.sh ./t.sh
+is 'FILE is a script' '[ $status = 4 ] && says "TEST comes first, then FILE"'
+
+# ---- words of other reducers, slips, and the help at any place
+while IFS='|' read -r words wanted; do
+    fresh
+    # shellcheck disable=SC2086 # words are words
+    call $words
+    is "words: $words" '[ $status = 2 ] && says "$wanted" && unchanged'
+done <<'WORDS'
+-n 4 ./t.sh f.c|--workers 4 says that here
+-j8 ./t.sh f.c|--workers 8 says that here
+--n=2 ./t.sh f.c|--workers 2 says that here
+--timeout 30 ./t.sh f.c|as timeout 30 gcc ..
+--tidy ./t.sh f.c|nothing like it
+--not-c ./t.sh f.c|nothing like it
+--workres 2 ./t.sh f.c|did you mean --workers?
+--workers 33 ./t.sh f.c|takes a number from 1 to 32
+./t.sh|here is only "./t.sh"
+./t.sh f.c g.c|"g.c" is one more
+WORDS
+fresh && call ./t.sh f.c --help
+is 'help stands behind other words too' '[ $status = 0 ] && [[ $out == *"USAGE"* ]] && unchanged'
+call -h
+is 'help by -h' '[ $status = 0 ] && [[ $out == *"USAGE"* ]]'
+call --version
+is '--version has a program and its checksum' '[[ $out == *"creduce 1.0"*"program "* ]]'
+call --explain K40
+is 'a number is explained' '[ $status = 0 ] && [[ $out == *"type 40 is K40"* ]]'
+
+# ---- refusals: the name, the function, the token, and a remedy
+while IFS='|' read -r wanted file; do
+    fresh && printf '%b' "$file" >f.c && cp f.c whole.c && call ./t.sh f.c
+    is "refusal: $wanted" '[ $status = 4 ] && says "$wanted" && cmp -s f.c whole.c && [ ! -e f.c.orig ]'
+done <<'FILES'
+nosuch isn't declared before line 2|int x;\nint main(void) { return nosuch; }\n
+f is used in line 2, column 25, and the file doesn't define it|int f(void);\nint main(void) { return f(); }\n
+strlen is a function of the library|int main(void) { return strlen(0); }\n
+1.5 is no integer constant|int x = 1.5;\nint main(void) { return 0; }\n
+a directive|#include <stdio.h>\nint main(void) { return 0; }\n
+the byte 0xC3|int \0303\0244;\nint main(void) { return 0; }\n
+`asm`|int main(void) { asm("nop"); return 0; }\n
+`asm`|int main(void) { asm volatile ("nop"); return 0; }\n
+unsigned long|int main(void) { __int128 x = 1; return 0; }\n
+write the type itself|int main(void) { int x = 1; typeof(x) y = x; return y; }\n
+put their types into the list|int f(x) int x; { return x; }\nint main(void) { return f(0); }\n
+a range of cases|int main(void) { switch (1) { case 1 ... 3:; } return 0; }\n
+`__attribute__`|int f(void) __attribute__((pure));\nint main(void) { return 0; }\n
+                       ^|int main(void) {\n    return 1 + 2 + 3 + x;\n}\n
+FILES
 
 # ---- a journal's words, and FILE changed since
 fresh && call --journal has:main f.c
@@ -131,11 +206,27 @@ is 'CDPATH leads nowhere else' '[ $status = 0 ] && grep -q "f()" f.c'
 fresh && cp f.c g.c && printf '#!/bin/sh\nsleep 20\ngrep -q main g.c\n' >long.sh && chmod +x long.sh
 "$program" --workers 1 ./long.sh g.c >second.txt 2>&1 </dev/null &
 first=$!
-until grep -q 'reduces g.c' creduce-trial.lock 2>/dev/null; do sleep 0.05; done
+within 5 'grep -q "reduces g.c" creduce-trial.lock 2>/dev/null' || sleep 1
 call ./t.sh f.c
 is 'a second run in a folder waits for 10 s, and is refused' '[ $status = 1 ] && says "another run uses the folders creduce-trial-K here (process $first reduces g.c)"'
 call has:main f.c
 is 'one that needs no folders runs' '[ $status = 0 ]'
+lists() { printf 'int a%s;\n' $(seq 30); printf 'int main(void) { return 0; }\n'; }
+false_ones=0 refused=0
+for name in one two three four five; do
+    mkdir $name && lists >$name/f.c && lists >$name/g.c
+    printf '#!/bin/sh\ngrep -q "a7;" f.c && cp f.c ../seen.$$ && sleep 0.01 && cmp -s f.c ../seen.$$ && rm ../seen.$$\n' >$name/f.sh
+    printf '#!/bin/sh\ngrep -q "a9;" g.c\n' >$name/g.sh
+    chmod +x $name/*.sh
+    (cd $name && exec timeout 60 "$program" ./f.sh f.c) >one.txt 2>&1 </dev/null &
+    other=$!
+    (cd $name && exec timeout 60 "$program" ./g.sh g.c) >two.txt 2>&1 </dev/null
+    last=$?
+    wait $other
+    for ended in $? $last; do [ $ended = 0 ] || refused=$((refused + 1)); done
+    grep -q 'a7;' $name/f.c && grep -q 'a9;' $name/g.c || false_ones=$((false_ones + 1))
+done
+is "two runs at once, five times: no false result ($refused of ten refused)" '[ $false_ones = 0 ]'
 kill -KILL $first
 wait $first 2>/dev/null
 call ./t.sh f.c
@@ -160,6 +251,13 @@ is 'a name of 250 bytes' '[ $status = 0 ] && [ "$(<"$long.orig")" = "$text" ]'
 fresh && mv f.c "a$long" && call has:main "a$long"
 is 'a name of 251 bytes has no room for its copy' '[ $status = 1 ] && [ "$(<"a$long")" = "$text" ]'
 
+fresh && printf 'int main(void) { return nosuch; }\n' >'-e1e touch hit.c' && call has:main -- '-e1e touch hit.c'
+is 'a name that sed would take as a command' '[ $status = 4 ] && [ ! -e hit.c ]'
+fresh && name=$'a\377.c' && mv f.c "$name" && call has:main "$name"
+is "a name that isn't UTF-8: status 2, and nothing changed" '[ $status = 2 ] && [ "$(<"$name")" = "$text" ] && [ "$(ls | wc -l)" = 4 ]'
+fresh && printf 'int main(void) { return \033]0;nosuch; }\n' >f.c && call has:main f.c
+is 'what controls a terminal is not repeated' '[ $status = 4 ] && ! [[ $err == *$'"'"'\033'"'"'* ]]'
+
 # ---- copies, modes, links
 fresh && chmod 600 f.c && printf '#!/bin/sh\n[ "$(stat -c %%a f.c)" = 600 ] && grep -q main f.c\n' >t.sh && call --workers 1 ./t.sh f.c
 is "FILE's mode is its copy's and its variants'" '[ $status = 0 ] && [ "$(mode f.c) $(mode f.c.orig)" = "600 600" ]'
@@ -180,11 +278,18 @@ is 'the smallest of an earlier run is kept' '[ $status = 0 ] && [ ! -e f.c.best 
 fresh && mv f.c f.c.best && sed -i 's/f\.c/f.c.best/' t.sh && call ./t.sh f.c.best
 is 'and may be given as FILE' '[ $status = 0 ] && [ "$(<f.c.best.orig)" = "$text" ]'
 
+fresh && mkdir one two && cp f.c one/ && cp f.c two/ && printf '#!/bin/sh\ngrep -q main f.c || exit 1; sleep 0.2\n' >t.sh
+(cd one && "$program" --workers 1 ../t.sh f.c >out.txt 2>&1 </dev/null) &
+first=$!
+(cd two && "$program" --workers 1 ../t.sh ../f.c >out.txt 2>&1 </dev/null)
+wait $first
+is 'the smallest of one run is no other one of the same name' '[ ! -e f.c.best ] && [ ! -e one/f.c.best ] && [ "$(<one/f.c)" = "$(<f.c)" ]'
+
 # ---- ended from outside
 fresh && printf '#!/bin/sh\ngrep -q main f.c || exit 1; timeout 60 sleep 47; echo late >late\n' >t.sh
 "$program" --journal --workers 2 ./t.sh f.c >out.txt 2>err.txt </dev/null &
 first=$!
-until pgrep -x -f 'sleep 47' >/dev/null; do sleep 0.05; done
+within 10 'pgrep -x -f "sleep 47" >/dev/null'
 kill -KILL $first
 wait $first 2>/dev/null
 status=$? out=$(<out.txt)
@@ -193,11 +298,12 @@ err=$(<err.txt)
 is 'SIGKILL of the program: its tests end, and the watchman says so' '! pgrep -x -f "sleep 47" >/dev/null && says "creduce: ended from outside; f.c is as it was" && says "creduce --resume --workers 2 ./t.sh f.c" && [ $status = 137 ]'
 printf '#!/bin/sh\ngrep -q main f.c\n' >t.sh
 call --resume --workers 2 ./t.sh f.c
+is 'no process of that run is left' '! grep -lszxF "PWD=$PWD/creduce-trial-0" /proc/[0-9]*/environ >/dev/null && [ -z "$(ls -d /proc/[0-9]*/cwd -l 2>/dev/null | grep -F -- "-> $PWD/creduce-trial")" ]'
 is '--resume at once goes on, and TEST has other bytes' '[ $status = 0 ] && says "TEST has other bytes" && [ -z "$(find . -name late)" ]'
 fresh && printf '#!/bin/sh\ngrep -q main f.c || exit 1; timeout 60 sleep 46; :\n' >t.sh
 "$program" --workers 2 ./t.sh f.c >out.txt 2>err.txt </dev/null &
 first=$!
-until pgrep -x -f 'sleep 46' >/dev/null; do sleep 0.05; done
+within 10 'pgrep -x -f "sleep 46" >/dev/null'
 kill -TERM $first
 wait $first 2>/dev/null
 status=$? out=$(<out.txt)
@@ -224,4 +330,74 @@ if command -v strace >/dev/null; then
 else
     echo "not tried: the order in which files come to the disk, since strace isn't there"
 fi
-cd / && echo "$tried situations tried" && exit $failed
+# ---- a cut of the power: what the disk then has is a copy of the file that stands for it
+mounted() { truncate -s 16M disk && mkfs.ext4 -q -F disk && mkdir on cut && mount -o loop disk on; }
+# after_cut: mounts what a disk has now as cut.
+after_cut() { cp disk copy && mount -o loop copy cut; }
+fresh
+if mounted 2>/dev/null; then
+    for how in '' --journal --standing; do
+        printf '%s\n' "$text" >on/f.c && sync -f on && rm -f on/f.c.*
+        # shellcheck disable=SC2086 # no word where none is wanted
+        call $how has:main "$PWD/on/f.c"
+        after_cut
+        is "a cut of the power behind the end ${how:-without a journal}" '[ $status = 0 ] && [ "$(<on/f.c)" != "$text" ] && cmp -s on/f.c cut/f.c && [ "$(<cut/f.c.orig)" = "$text" ] && cmp -s on/f.c.log cut/f.c.log'
+        umount cut
+    done
+    lists >whole.c && printf '#!/bin/sh\nsleep 0.02\ngrep -q "a7;" f.c && grep -q "a9;" f.c\n' >t.sh
+    cp whole.c on/f.c && sync -f on && rm -f on/f.c.* && call ./t.sh on/f.c
+    cp on/f.c result.c && cp on/f.c.log result.log
+    torn='' cuts=0 ends=0
+    for number_of_cut in $(seq 20); do
+        how=--journal && [ $((number_of_cut % 2)) = 0 ] || how=--standing
+        rm -f on/f.c.* && cp whole.c on/f.c && sync -f on
+        "$program" $how ./t.sh on/f.c >out.txt 2>err.txt </dev/null &
+        first=$!
+        sleep "$((RANDOM % 2)).$(printf %03d $((RANDOM % 1000)))"
+        kill -STOP $first 2>/dev/null && cuts=$((cuts + 1)) || ends=$((ends + 1))
+        after_cut
+        kill -KILL $first 2>/dev/null
+        wait $first 2>/dev/null
+        cmp -s cut/f.c whole.c || cmp -s cut/f.c result.c || torn+=" FILE at cut $number_of_cut"
+        [ ! -e cut/f.c.orig ] || cmp -s cut/f.c.orig whole.c || torn+=" FILE.orig at cut $number_of_cut"
+        cmp -s cut/f.c whole.c || cmp -s cut/f.c.orig whole.c || torn+=" no original at cut $number_of_cut"
+        if [ $how = --journal ]; then
+            timeout 60 "$program" --resume ./t.sh cut/f.c >out.txt 2>err.txt </dev/null
+            status=$? out=$(<out.txt) err=$(<err.txt)
+            [ $status = 0 ] && cmp -s cut/f.c result.c && cmp -s cut/f.c.log result.log || torn+=" the resumed run at cut $number_of_cut"
+        fi
+        umount cut
+    done
+    is "$cuts cuts within a run, $ends behind its end: FILE whole, its copy whole, and --resume comes to the same end$torn" '[ -z "$torn" ]'
+    umount on
+else
+    echo "not tried: a cut of the power, since no file system could be mounted from a file (root and a loop device are wanted)"
+fi
+
+# ---- progress
+fresh && lists >f.c && printf '#!/bin/sh\nsleep 0.02\ngrep -q "a7;" f.c\n' >t.sh
+if command -v script >/dev/null; then
+    script -q -c "stty cols 40; exec '$program' ./t.sh f.c" screen.txt >/dev/null 2>&1 </dev/null
+    widest=$(tr '\r' '\n' <screen.txt | sed 's/\x1b\[[0-9;]*[A-Za-z]//g' | grep -v '^Script' | grep -v ' size ' | awk '{ if (length($0) > most) most = length($0) } END { print most + 0 }')
+    out="$widest columns"
+    is "progress on a terminal of 40 columns ($widest used)" '[ "$widest" -gt 0 ] && [ "$widest" -le 40 ]'
+fi
+fresh && printf '#!/bin/sh\nsleep 70\ngrep -q main f.c\n' >t.sh
+"$program" --workers 1 ./t.sh f.c >out.txt 2>err.txt </dev/null &
+first=$!
+sleep 64
+status=0 out=$(<out.txt) err=$(<err.txt)
+kill -TERM $first
+wait $first 2>/dev/null
+is 'elsewhere a line comes at least each minute, while a test runs too' '[ "$(grep -c . err.txt)" -ge 1 ]'
+
+# ---- the start
+if [ -x "$top/crates/creduce/out/creduce" ] || [ -n "${CREDUCE:-}" ]; then
+    fresh
+    begun=$(date +%s%N)
+    for _ in $(seq 20); do "$program" --limit 0 has:main f.c >/dev/null 2>&1 </dev/null; done
+    out="$((($(date +%s%N) - begun) / 20000)) us"
+    is "a start with has:, --limit 0 and three files takes $out on average" true
+fi
+cd / && echo "$tried situations tried, $wrong of them wrong"
+[ "$wrong" = 0 ]

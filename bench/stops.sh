@@ -1,14 +1,14 @@
 #!/usr/bin/env bash
-# Kills reductions that keep a journal, 200 times in all, each at a random moment, and goes on with each until it ends: the file and the
+# Kills reductions that keep a journal, 1,000 times in all, each at a random moment, and goes on with each until it ends: the file and the
 # log have to be those of a reduction without a stop, and no record that stood may be gone. The file is examples/clamp/thermostat.c; the
-# test is by turns a script that takes 50 ms and a text, with 1, 2, 4 and 8 workers. Then the same on a full disk: it ends with 12, and goes on
-# once there is room.
+# test is by turns a script that takes 50 ms, a text and a formula, by 1 to 8 workers. Then the same on a full disk: it ends with 12, and goes
+# on once there is room.
 # By hand only: bench/stops.sh [KILLS]. CREDUCE=PROGRAM takes another program than the launcher at the top. The full disk is a file system
 # in memory, which root alone may mount; TMPDIR names another disk for the rest than that of /tmp. A cut of the power isn't tried.
 set -u
 . "$(dirname "${BASH_SOURCE[0]}")/reductions.sh"
 top=$(cd "$(dirname "${BASH_SOURCE[0]}")/.." && pwd)
-most=${1:-200}
+most=${1:-1000}
 begin_reductions 0.05
 cp "$top/examples/clamp/thermostat.c" whole.c
 printf '#!/bin/sh\nsleep %s\ngrep -q clamp f.c && grep -q "for (" f.c && grep -q printf f.c\n' "$seconds" >slow.sh
@@ -22,16 +22,15 @@ standing() {
     od -An -v -tu1 -w32 "$1" | awk -v bytes="$(wc -c <"$1")" '$1 == 1 && bytes >= 32 * NR + 1 { n = NR; next } { exit } END { print n + 0 }'
 }
 
-# The tests and the numbers of workers, by turns: each reduction takes the next of them.
-tests=(./slow.sh has:clamp)
-workers=(1 2 4 8)
+# The tests, by turns: each reduction takes the next of them, and the next number of workers.
+tests=(./slow.sh has:clamp 'if:and(has("clamp"),same)')
 
 # milliseconds: since the machine began.
 milliseconds() { read -r now _ </proc/uptime && echo "${now/./}0"; }
 
 # What each test comes to without a stop, and how long it takes.
 declare -A whole=()
-for number in 0 1; do
+for number in 0 1 2; do
     cp whole.c f.c && rm -f f.c.orig f.c.log
     begun=$(milliseconds)
     "$program" --workers 4 "${tests[number]}" f.c >plain.txt 2>&1 || failed "the plain reduction by ${tests[number]} ended with $?"
@@ -61,8 +60,8 @@ killed() {
 
 kills=0 reductions=0 stood=0
 while [ "$kills" -lt "$most" ]; do
-    number=$((reductions % 2))
-    words=(--workers "${workers[reductions / 2 % 4]}" "${tests[number]}" f.c)
+    number=$((reductions % 3))
+    words=(--workers $((reductions % 8 + 1)) "${tests[number]}" f.c)
     cp whole.c f.c && rm -f f.c.orig f.c.log f.c.journal f.c.journal-words
     how=--journal stood=0
     while killed "$number" "$how"; do
@@ -81,7 +80,7 @@ while [ "$kills" -lt "$most" ]; do
     same "kill $kills" "$number"
     reductions=$((reductions + 1))
 done
-echo "$kills kills in $reductions reductions, by 1, 2, 4 and 8 workers: each came to the same file and log"
+echo "$kills kills in $reductions reductions, by scripts, texts and formulas and 1 to 8 workers: each came to the same file and log"
 
 # ---- a full disk: the file, its copy, its log and its journal stand on it, the trials beside it
 mkdir full

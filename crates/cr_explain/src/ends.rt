@@ -52,6 +52,9 @@ pub fn explanation(
         4 | 5 => refused_text(alloc, line, seen),
         6 => no_text(alloc, test),
         8 => failed_text(alloc, test, line, seen.test),
+        12 => format!(in alloc;
+            "No record of it is lost, and FILE is as it was: --resume goes on with the same words. Another run may have it open, or its disk may be full.\n"
+        ),
         13 => journal_text(alloc, file, line, words),
         14 => log_text(alloc, line),
         _ => Ok(String::new(alloc)),

@@ -1,7 +1,10 @@
 // Where a file's first fault stands.
 ghost use Rattle.std.specs.Prelude.{◌≡◌};
+ghost use Rattle.cr_syntax.specs.Words.{AreSpans};
 ghost use Rattle.cr_tokens.specs.Tokens.{Tokenizes};
 
+use crate::extensions::extension_remedy;
+use cr_check::{TypeFault, check};
 use cr_decls::parse;
 use cr_exprs_descent::ParseFault;
 use cr_scopes::{NameFault, Names, resolve_whole};
@@ -9,13 +12,18 @@ use cr_syntax::{Unit, tokens_are_spans};
 use cr_tokens::{Token, TokenFault, Tokens, read};
 use std::alloc::{AllocError, Global};
 
-/// Bytes of a file, from `start` to before `end`.
+/// In front of a token that fits nowhere so many tokens are looked at.
+const LOOKED_AT: usize = 64;
+
+/// Where a fault stands: bytes of a file, from `start` to before `end`.
 #[derive(Clone, Copy, Debug, PartialEq, Eq)]
 pub struct Place {
     pub start: usize,
     pub end: usize,
     /// Of parse 4, which of its nine forms it is; else 0.
     pub form: u8,
+    /// Of parse 1, the bytes of a word in front of it that C11 hasn't, by which the parser may have come to it.
+    pub cause: Option<(usize, usize)>,
 }
 
 impl Place {
@@ -25,6 +33,7 @@ impl Place {
             start,
             end: start.saturating_add(1),
             form: 0,
+            cause: None,
         }
     }
 
@@ -34,12 +43,33 @@ impl Place {
             start: token.start as usize,
             end: token.end as usize,
             form,
+            cause: None,
         })
+    }
+
+    // A token that fits nowhere.
+    fn misfit(file: &[u8], tokens: &[Token], number: usize) -> Option<Place> {
+        let cause = cause(file, tokens, number);
+        Place::token(tokens, number, 0).map(|place| Place { cause, ..place })
+    }
+
+    /// The word that may be the cause, where there is one.
+    pub fn cause_text<'a>(&self, file: &'a [u8]) -> Option<&'a str> {
+        let (start, end) = self.cause?;
+        text_at(file, start, end)
     }
 
     /// The bytes there, where they are a text.
     pub fn text<'a>(&self, file: &'a [u8]) -> Option<&'a str> {
         text_at(file, self.start, self.end)
+    }
+
+    /// The bytes from there on.
+    pub fn onward<'a>(&self, file: &'a [u8]) -> &'a [u8] {
+        match file.get(self.start..) {
+            Some(bytes) => bytes,
+            None => &[],
+        }
     }
 }
 
@@ -51,8 +81,8 @@ fn text_at(file: &[u8], start: usize, end: usize) -> Option<&str> {
     }
 }
 
-/// Where the first fault of a file's tokens, its parse or its names stands; else where a function is used first that the file doesn't
-/// define, if one is.
+/// Where the first fault of a file's tokens, its parse, its names or its types stands. Of K40, which stands at the last token, it is the first
+/// use of a function that the file doesn't define, if there is one.
 pub fn first_place(alloc: Global, file: &[u8]) -> Result<Option<Place>, AllocError> {
     match read(alloc, file) {
         Ok(tokens) => place_in(alloc, file, &tokens),
@@ -72,9 +102,8 @@ fn place_in(alloc: Global, file: &[u8], tokens: &Tokens) -> Result<Option<Place>
         Ok(unit) => place_of_names(alloc, file, &unit),
         Err(ParseFault::NoMemory) => Err(AllocError),
         Err(ParseFault::Ended) => Ok(Place::token(list, list.len().saturating_sub(1), 0)),
-        Err(ParseFault::Unexpected(token) | ParseFault::TooDeep(token)) => {
-            Ok(Place::token(list, token as usize, 0))
-        }
+        Err(ParseFault::Unexpected(token)) => Ok(Place::misfit(file, list, token as usize)),
+        Err(ParseFault::TooDeep(token)) => Ok(Place::token(list, token as usize, 0)),
         Err(ParseFault::OutsideSubset(token, form)) => Ok(Place::token(list, token as usize, form)),
     }
 }
@@ -90,8 +119,44 @@ fn place_of_names(alloc: Global, file: &[u8], unit: &Unit) -> Result<Option<Plac
         Some(NameFault::Unknown(token) | NameFault::Twice(token)) => {
             Ok(Place::token(list, token as usize, 0))
         }
-        None => Ok(undefined_use(file, list, &resolution.names)),
+        None => place_of_types(alloc, file, unit, &resolution.names),
     }
+}
+
+fn place_of_types(
+    alloc: Global,
+    file: &[u8],
+    unit: &Unit,
+    names: &Names,
+) -> Result<Option<Place>, AllocError>
+    requires { AreSpans file.now unit.now.tokens.list.items }
+{
+    let list = unit.tokens.list.as_slice();
+    match check(alloc, file, unit, names) {
+        Ok(checked) => {
+            drop(checked);
+            Ok(None)
+        }
+        Err(TypeFault::NoMemory) => Err(AllocError),
+        Err(TypeFault::Broken(40, _)) => Ok(undefined_use(file, list, names)),
+        Err(TypeFault::Twice(token) | TypeFault::Broken(_, token)) => {
+            Ok(Place::token(list, token as usize, 0))
+        }
+    }
+}
+
+// The first word of compilers or headers in front of a token, in its statement or declaration.
+fn cause(file: &[u8], tokens: &[Token], number: usize) -> Option<(usize, usize)> {
+    let mut found = None;
+    for token in tokens.get(..number)?.iter().rev().take(LOOKED_AT) {
+        let (start, end) = (token.start as usize, token.end as usize);
+        match text_at(file, start, end) {
+            Some(";" | "{" | "}") => break,
+            Some(word) if extension_remedy(word).is_some() => found = Some((start, end)),
+            _ => {}
+        }
+    }
+    found
 }
 
 // The first use of a function that the file doesn't define, by the look of its declarations.

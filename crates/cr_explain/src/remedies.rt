@@ -1,49 +1,79 @@
 // What can be done about a fault, by what stands there.
-use crate::place::is_of_library;
+use crate::extensions::extension_remedy;
+use crate::place::{Place, is_of_library};
+use crate::shown::{Position, position};
 use cr_numbers::Kind;
 use std::alloc::{AllocError, Global};
 
-/// What can be done, by the number and by the bytes at fault; nothing where that is all in the number's row.
+/// What can be done, by the number and by what stands at the fault; nothing where that is all in the number's row.
 pub fn remedy(
     alloc: Global,
+    file: &[u8],
+    place: Place,
     kind: Kind,
     number: u8,
-    spelled: &str,
 ) -> Result<Option<String>, AllocError> {
+    if kind == Kind::Token && number == 2 {
+        return bad_byte(alloc, place.onward(file));
+    }
+    let Some(spelled) = place.text(file) else {
+        return Ok(None);
+    };
     match (kind, number) {
-        (Kind::Token, 2) => bad_byte(alloc, spelled),
-        (Kind::Parse, 1) => match unit_remedy(spelled) {
-            Some(text) => Ok(Some(format!(in alloc; "`{spelled}`: {text}")?)),
-            None => Ok(None),
-        },
-        (Kind::Name, 1) => Ok(Some(unknown_name(alloc, spelled)?)),
+        (Kind::Parse, 1) => misfit(alloc, file, place, spelled),
+        (Kind::Name, 1) => Ok(Some(unknown_name(alloc, spelled, position(file, place.start))?)),
+        (Kind::Type, 40) => {
+            let at = position(file, place.start);
+            let text = format!(in alloc;
+                "{spelled} is used in {at}, and the file doesn't define it: give it a short body"
+            )?;
+            Ok(Some(text))
+        }
         _ => Ok(None),
     }
 }
 
-// At a byte that begins no token.
-fn bad_byte(alloc: Global, spelled: &str) -> Result<Option<String>, AllocError> {
-    let Some(first) = spelled.chars().next() else {
+// At a byte that begins no token, or spoils a literal.
+fn bad_byte(alloc: Global, bytes: &[u8]) -> Result<Option<String>, AllocError> {
+    let Some(first) = bytes.first() else {
         return Ok(None);
     };
-    Ok(Some(match first {
-        '#' => format!(in alloc;
-            "a directive: creduce-prepare makes a preprocessed file of the source"
-        )?,
-        '0'..='9' => format!(in alloc;
-            "the number that begins here is no integer constant: floating point is left out"
-        )?,
-        '\'' => format!(in alloc; "a character constant has one character here")?,
-        '"' => format!(in alloc; "a string literal with an escape that C hasn't, or a trigraph")?,
-        '\\' => format!(in alloc;
-            "an escape that C hasn't, or a line that goes on behind a backslash: creduce-prepare joins these"
-        )?,
-        _ => format!(in alloc; "no token of C begins with this byte")?,
-    }))
+    let text = match *first {
+        b'#' => "a directive: creduce-prepare makes a preprocessed file of the source",
+        b'\'' => "a character constant has one character here",
+        b'?' => "a trigraph: write the character that it stands for",
+        b'\\' =>
+            "an escape that C hasn't, or a line that goes on behind a backslash: creduce-prepare joins these",
+        b'.' | b'0'..=b'9' => return Ok(Some(bad_number(alloc, bytes)?)),
+        byte => {
+            let text = format!(in alloc;
+                "the byte 0x{byte:02X} begins no token, and stands in no literal"
+            )?;
+            return Ok(Some(text));
+        }
+    };
+    Ok(Some(String::from_str(alloc, text)?))
+}
+
+// A number that is no integer constant, as it is spelled.
+fn bad_number(alloc: Global, bytes: &[u8]) -> Result<String, AllocError> {
+    let mut spelled = String::new(alloc);
+    let mut is_exponent = false;
+    for byte in bytes {
+        let is_sign = is_exponent && matches!(*byte, b'+' | b'-');
+        if !is_sign && !byte.is_ascii_alphanumeric() && !matches!(*byte, b'.' | b'_') {
+            break;
+        }
+        is_exponent = matches!(*byte, b'e' | b'E' | b'p' | b'P');
+        spelled.push(char::from(*byte))?;
+    }
+    format!(in alloc;
+        "{spelled} is no integer constant that a type of the subset holds: floating point is left out"
+    )
 }
 
 // A name that nothing declares.
-fn unknown_name(alloc: Global, name: &str) -> Result<String, AllocError> {
+fn unknown_name(alloc: Global, name: &str, at: Position) -> Result<String, AllocError> {
     if is_of_library(name) {
         return format!(in alloc;
             "{name} is a function of the library, and wants its prototype in front: creduce-prepare brings it"
@@ -62,22 +92,33 @@ fn unknown_name(alloc: Global, name: &str) -> Result<String, AllocError> {
             "{name} is a function of the library, of which printf, putchar, abort and exit alone are known: define it in the file, or let creduce-prepare do so"
         );
     }
-    format!(in alloc; "{name} isn't declared before this place")
+    match extension_remedy(name) {
+        Some(text) => format!(in alloc; "`{name}`: {text}"),
+        None => format!(in alloc; "{name} isn't declared before {at}"),
+    }
 }
 
-// What is done about a token that fits nowhere.
-fn unit_remedy(spelled: &str) -> Option<&'static str> {
+// What is done about a token that fits nowhere: by a word of another language in front of it, else by itself.
+fn misfit(
+    alloc: Global,
+    file: &[u8],
+    place: Place,
+    spelled: &str,
+) -> Result<Option<String>, AllocError> {
+    if let Some(word) = place.cause_text(file)
+        && let Some(text) = extension_remedy(word)
+    {
+        return Ok(Some(format!(in alloc; "`{word}`: {text}")?));
+    }
+    match extension_remedy(spelled).or(token_remedy(spelled)) {
+        Some(text) => Ok(Some(format!(in alloc; "`{spelled}`: {text}")?)),
+        None => Ok(None),
+    }
+}
+
+// The same of punctuators and keywords.
+fn token_remedy(spelled: &str) -> Option<&'static str> {
     Some(match spelled {
-        "asm" | "__asm__" | "__asm" => "take it out, or call a function in its place",
-        "__int128" | "__int128_t" | "__uint128_t" => "use two of type unsigned long",
-        "typeof" | "__typeof__" | "__typeof" | "__auto_type" => "write the type itself",
-        "__attribute__" | "__attribute" | "__extension__" | "__restrict" | "__restrict__" => {
-            "creduce-prepare takes it out"
-        }
-        "__inline" | "__inline__" | "__const" | "__signed__" | "__volatile__" => {
-            "creduce-prepare writes the word of C in its place"
-        }
-        "__thread" | "__label__" | "__complex__" => "take it out: the subset hasn't it",
         "..." =>
             "a range of cases is no C11: write a case for each; and a function of your own has a fixed number of parameters",
         "&&" => "the address of a label is no C11: use a switch",

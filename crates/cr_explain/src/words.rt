@@ -100,6 +100,9 @@ fn one_option<'a>(
         None => (word, None),
     };
     if !is_option(told.is_replay, name) {
+        if told.is_replay && (VALUED.contains(&name) || FLAGS.contains(&name)) {
+            return Ok(Some(format!(in alloc; "{name} doesn't stand with --replay")?));
+        }
         return Ok(Some(unknown_option(alloc, word, next)?));
     }
     if told.options.as_slice().contains(&name) {

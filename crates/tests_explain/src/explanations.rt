@@ -1,5 +1,5 @@
 // What is said beside a status. What is wanted was found by hand: from the rules of the command line, and from the places in the texts.
-use cr_explain::{Seen, TestSeen, explanation};
+use cr_explain::{Seen, TestSeen, asked_text, explanation};
 use std::alloc::{AllocError, Global};
 use std::process::Abort;
 
@@ -35,26 +35,46 @@ a shell takes away|if:has(x)|f.c
 the brackets don't pair|if:not(same|f.c
 is no formula|if:ends(256)|f.c
 LOG and FILE are two words, and here are 1|--replay|a
-\"--workers\" is no option|--replay|--workers|1|a|b
+--workers doesn't stand with --replay|--replay|--workers|1|a|b
+--journal doesn't stand with --replay|--replay|--journal|a|b
+--journal takes no value|--journal=yes|a|b
+--replay is the first word|a|--replay|b
+--workers 8 says that here|-j8|a|b
+did you mean --limit?|--limits|3|a|b
+did you mean --resume?|--resum|a|b
+--explain takes token 1 to 5|--explain|K44
+takes a number from 0 to 9223372036854775807, and not \"-1\"|--limit|-1|a|b
 ";
 
 /// Files that are refused: the end of the program's line, a part of what is said, and the file, whose lines end with `/`.
 const FILES: &str = "\
 1: not in the subset: token 2|a directive|#include <stdio.h>/int main(void) { return 0; }/
-1: not in the subset: token 2|floating point|int x = 1.5;/
-1: not in the subset: parse 1|`asm`: take it out|int main(void) { asm(0); return 0; }/
+1: not in the subset: token 2|1.5e-3 is no integer constant|int x = 1.5e-3+1;/
+1: not in the subset: token 2|the byte 0xC3 begins no token|int ä;/
+1: not in the subset: token 2|a character constant has one character|int x = 'ab';/
+1: not in the subset: token 2|an escape that C hasn't|char *s = \"\\e\";/
+1: not in the subset: name 1|`asm`: take it out|int main(void) { asm(\"nop\"); return 0; }/
+1: not in the subset: parse 1|`asm`: take it out|int main(void) { asm volatile (\"nop\"); return 0; }/
+1: not in the subset: parse 1|`asm`: take it out|int main(void) { int x; asm(\"nop\" : \"=r\"(x)); return 0; }/
+1: not in the subset: parse 1|`__int128`: use two|int main(void) { __int128 x = 1; return 0; }/
+1: not in the subset: parse 1|`size_t`: a header has it|int main(void) { size_t n = 1; return 0; }/
+1: not in the subset: parse 1|`{`: a statement within|int main(void) { int x = ({ 1; }); return x; }/
 1: not in the subset: parse 1|two of type unsigned long|__int128 x;/
 1: not in the subset: parse 1|creduce-prepare takes it out|int f(void) __attribute__((pure));/
 1: not in the subset: parse 1|put their types into the list|int f(x) int x; { return x; }/
 1: not in the subset: parse 4|4. a call of anything but a plain name|int f(void); int main(void) { return (f)(); }/
 1: not in the subset: parse 4|1. a keyword without a rule|double x;/
-2: not in the subset: name 1|nosuch isn't declared before this place|int x;/int main(void) { return nosuch; }/
+2: not in the subset: name 1|nosuch isn't declared before line 2, column 25|int x;/int main(void) { return nosuch; }/
 1: not in the subset: name 1|strlen is a function of the library|int main(void) { return strlen(0); }/
 1: not in the subset: name 1|__builtin_clz is a function of the compiler|int main(void) { return __builtin_clz(1); }/
 2: not in the subset: type 40|f is used in line 2, column 25, and the file doesn't define it|int f(void);/int main(void) { return f(); }/
 1: not in the subset: type 40|main isn't, as int main(void)|int f(void) { return 0; }/
 1: not defined: U2|`~` or `%` by 0|int main(void) { return 1 ~ 0; }/
 1: not in the subset: name 1|    int main(void) { return x; }/                            ^|int main(void) { return x; }/
+1: not in the subset: parse 1|`...`: a range of cases|int main(void) { switch (1) { case 1 ... 3:; } return 0; }/
+1: not in the subset: parse 1|write the type itself|int x; typeof(x) y;/
+1: not in the subset: type 20|    struct s { int m; } x; int main(void) { return x.n; }/                                                    ^|struct s { int m; } x; int main(void) { return x.n; }/
+2: not in the subset: type 40|Line 1 of f.c is/    int f(void); int main(void) { return f(); }/                                         ^|int f(void); int main(void) { return f(); }/int x;/
 ";
 
 /// Other ends: the status, a part of what is said, the program's line, and the two words.
@@ -65,6 +85,7 @@ const ENDS: &str = "\
 6|hasn't the tokens of \"x\"|creduce: the test says no to f.c|has:x|f.c
 8|There is no ./t.sh|creduce: the test failed on f.c|./t.sh|f.c
 8|The test failed on a variant|f.c size 9 to 8 accepted 1 turns 4 fault|./t.sh|f.c
+12|--resume goes on|creduce: journal fault: f.c.journal|has:x|f.c
 13|Record 3 of it|creduce: journal refused: f.c.journal 3|./t.sh|f.c
 14|At line 7 of the log|creduce: replay: line 7|f.c.log|f.c
 ";
@@ -162,6 +183,36 @@ fn a_refusal_says_what_can_be_done(rt: HostRuntime) -> Result<(), AllocError> {
 fn other_ends_are_explained(rt: HostRuntime) -> Result<(), AllocError> {
     for row in ENDS.lines() {
         expect_end(&rt, rt.alloc(), row)?;
+    }
+    Ok(())
+}
+
+/// Words that ask for no run, each behind a bar, and first a part of what is answered; without one, words that ask for no text.
+const ASKED: &str = "\
+creduce shrinks a C program|--help
+creduce shrinks a C program|-h
+--any-order|./t.sh|f.c|--help
+type 37 is K37|--explain|K37
+token 2: at this byte|--explain|token|2
+U16: a conversion of `printf`|--explain|all
+|./t.sh|f.c
+|./t.sh|f.c|--|--help
+|--explain|K44
+|
+";
+
+#[test]
+fn the_help_stands_at_any_place(rt: HostRuntime) -> Result<(), AllocError> {
+    for line in ASKED.lines() {
+        let wanted = line.split('|').next().unwrap_or("");
+        let words = words_in(rt.alloc(), line)?;
+        match asked_text(rt.alloc(), words.as_slice())? {
+            Some(text) => {
+                assert!(&rt; !wanted.is_empty(), "{line}");
+                expect_part(&rt, &text, wanted, line);
+            }
+            None => assert!(&rt; wanted.is_empty(), "{line}"),
+        }
     }
     Ok(())
 }
