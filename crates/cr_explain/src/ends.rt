@@ -128,7 +128,7 @@ fn refused_text(alloc: Global, line: &str, seen: Seen<'_>) -> Result<String, All
         )?,
         None => cr_numbers::number_text(alloc, refused.kind, refused.number)?,
     };
-    if is_of_source(refused.kind) {
+    if is_of_source(refused.kind) && !text.as_str().contains("creduce-prepare") {
         write!(
             text,
             "creduce-prepare makes a file that creduce takes of a source, where it can, and lists what else stands in the way.\n"

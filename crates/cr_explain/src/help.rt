@@ -1,7 +1,7 @@
 // The lines of launcher/help.txt, which docs/texts writes from it.
 
 /// What `creduce --help` prints, line by line.
-pub static HELP: [&str; 121] = [
+pub static HELP: [&str; 124] = [
     "creduce shrinks a C program while your test keeps saying yes. All that it asks the test about is",
     "lawful C of an integer subset of C11: it parses, breaks no constraint, and its run ends with nothing",
     "undefined.",
@@ -13,6 +13,7 @@ pub static HELP: [&str; 121] = [
     "  creduce --prove",
     "  creduce --install [PREFIX]",
     "  creduce --version",
+    "  creduce --explain NUMBER",
     "",
     "  An option is --NAME=VALUE or --NAME VALUE, once at most and in any place. After -- no word is one.",
     "",
@@ -46,8 +47,8 @@ pub static HELP: [&str; 121] = [
     "                    the FILE and the log of a reduction without the stop",
     "",
     "  Where nothing is kept yet, --resume begins anew, and --journal refuses a journal that is there. With",
-    "  another TEST, or with --any-order where it wasn't, it ends as it may: the journal names neither.",
-    "  --workers and --window may differ.",
+    "  another TEST, with --any-order where it wasn't, or where FILE was changed since, --resume ends with",
+    "  1 and changes nothing. --workers and --window may differ.",
     "",
     "WORKERS THAT STAY",
     "",
@@ -68,6 +69,8 @@ pub static HELP: [&str; 121] = [
     "  --install PREFIX  put the program below PREFIX (without a word ~/.local), for any machine with the C",
     "                    library: also its manual page, completion, headers, tests to copy and its record",
     "  --version         the record of the program, and whether the program is the recorded one",
+    "  --explain NUMBER  what a number of a refusal means, as K37, token 2 or U12; all of them by all",
+    "  --help            these lines, at any place before --",
     "",
     "TO CHECK A LOG",
     "",
