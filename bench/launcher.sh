@@ -52,8 +52,9 @@ ended() { [ "$status" = "$1" ]; }
 
 usage='creduce: usage: creduce [--workers N] [--window N] [--limit N] [--steps N] [--passes LETTERS] TEST FILE'
 program 0 'f.c size 9 to 9 accepted 0 turns 0 fixed'
-for word in --help -h; do
-    call "$word"
+for word in --help -h './t.sh f.c --help'; do
+    # shellcheck disable=SC2086 # several words
+    call $word
     is "$word answers before a build" [ "$status$err" = 0 ]
 done
 is "the help has the options and statuses" grep -q -e '--passes LETTERS' out.txt

@@ -3,6 +3,7 @@
 //! ends with the status of `run_more`, which see.
 #![tactic(auto)]
 
+mod asked;
 mod folders;
 mod journal;
 mod one_run;
@@ -11,6 +12,7 @@ mod said;
 mod version;
 mod watched;
 
+use crate::asked::asked;
 use crate::one_run::run;
 use crate::said::explain;
 use crate::version::version;
@@ -43,6 +45,9 @@ fn words(rt: &HostRuntime) -> Result<Vec<String>, AllocError> {
 
 fn answer(rt: &HostRuntime, threads: &(impl Threads + Wait + Sync)) -> Result<u8, AllocError> {
     let words = words(rt)?;
+    if let Some(status) = asked(rt, words.as_slice())? {
+        return Ok(status);
+    }
     if words
         .first()
         .is_some_and(|word| word.as_str() == "--version")
