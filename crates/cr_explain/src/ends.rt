@@ -1,6 +1,7 @@
 // What is said beside each status.
 use crate::lines::refused;
 use crate::options::{FLAGS, VALUED};
+use crate::place::Place;
 use crate::refusals::refusal_text;
 use crate::words::word_fault;
 use std::alloc::{AllocError, Global};
@@ -25,6 +26,8 @@ pub struct Seen<'a> {
     pub folder: &'a str,
     /// The bytes of the file that the program's line names, where they can be read.
     pub file: Option<&'a [u8]>,
+    /// Where its first fault stands, as far as it was found.
+    pub place: Option<Place>,
     pub test: TestSeen<'a>,
     /// Where the documents stand.
     pub documents: &'a str,
@@ -125,6 +128,7 @@ fn refused_text(alloc: Global, line: &str, seen: Seen<'_>) -> Result<String, All
             refused.line,
             refused.kind,
             refused.number,
+            seen.place,
         )?,
         None => cr_numbers::number_text(alloc, refused.kind, refused.number)?,
     };

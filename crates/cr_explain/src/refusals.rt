@@ -1,12 +1,12 @@
 // What a person needs beside a refusal.
-use crate::place::{Place, first_place};
+use crate::place::Place;
 use crate::remedies::remedy;
 use crate::shown::{position, push_line};
 use cr_numbers::{Kind, form_text, number_text, push_folded};
 use std::alloc::{AllocError, Global};
 
 /// What is said of a refusal beside the program's line: the line of the file, where in it the fault stands, what the number means, and
-/// what can be done. `line` is the line that the program named, from 1.
+/// what can be done. `line` is the line that the program named, from 1, and `place` where in the file the fault is, if that is known.
 pub fn refusal_text(
     alloc: Global,
     name: &str,
@@ -14,9 +14,9 @@ pub fn refusal_text(
     line: u64,
     kind: Kind,
     number: u8,
+    place: Option<Place>,
 ) -> Result<String, AllocError> {
     let mut text = String::new(alloc);
-    let place = found(alloc, file, kind)?;
     let fault = place.map(|place| place.start);
     // K40 is put at the last token; what it is about stands before.
     let line = match fault {
@@ -33,14 +33,6 @@ pub fn refusal_text(
         )?;
     }
     Ok(text)
-}
-
-// The place of the fault that was put. Of a run the line alone is known.
-fn found(alloc: Global, file: &[u8], kind: Kind) -> Result<Option<Place>, AllocError> {
-    match kind {
-        Kind::Token | Kind::Parse | Kind::Name | Kind::Type => first_place(alloc, file),
-        Kind::Undefined | Kind::Left => Ok(None),
-    }
 }
 
 fn push_remedy(

@@ -1,6 +1,7 @@
 // What is said on standard error when a run has ended.
 use crate::one_run::Ended;
 use cr_explain::{Seen, TestSeen, explanation, places_of, refused};
+use cr_explain_place::first_place;
 use cr_start::documents_of;
 use creduce_system::read_most;
 use std::alloc::AllocError;
@@ -16,7 +17,7 @@ pub fn explain(rt: &HostRuntime, words: &[String], ended: &Ended) -> Result<(), 
         Ok(quiet) => quiet.as_str() == "1",
         Err(_) => false,
     };
-    if is_quiet || !matches!(ended.status, 2..=6 | 8 | 13 | 14) {
+    if is_quiet || !matches!(ended.status, 2..=6 | 8 | 12..=14) {
         return Ok(());
     }
     let put = String::from_utf8_lossy(rt.alloc(), ended.put.as_slice())?;
@@ -32,6 +33,11 @@ pub fn explain(rt: &HostRuntime, words: &[String], ended: &Ended) -> Result<(), 
         2 => None,
         _ => read_most(rt, rt.alloc(), named, MOST).ok(),
     };
+    // Of a run that isn't defined the line says all that is known of the place.
+    let place = match (ended.status, &file) {
+        (4, Some(file)) => first_place(rt.alloc(), file.as_slice())?,
+        _ => None,
+    };
     let folder = env::var(rt, "PWD").ok();
     let bytes = match ended.status {
         8 => read_most(rt, rt.alloc(), test, MOST).ok(),
@@ -41,6 +47,7 @@ pub fn explain(rt: &HostRuntime, words: &[String], ended: &Ended) -> Result<(), 
     let seen = Seen {
         folder: folder.as_ref().map_or(".", |folder| folder.as_str()),
         file: file.as_ref().map(|file| file.as_slice()),
+        place,
         test: test_seen(rt, test, bytes.as_ref()),
         documents: documents.as_str(),
     };

@@ -1,5 +1,6 @@
 // What is said beside a status. What is wanted was found by hand: from the rules of the command line, and from the places in the texts.
-use cr_explain::{Seen, TestSeen, asked_text, explanation};
+use cr_explain::{Place, Seen, TestSeen, asked_text, explanation};
+use cr_explain_place::first_place;
 use std::alloc::{AllocError, Global};
 use std::process::Abort;
 
@@ -90,10 +91,11 @@ const ENDS: &str = "\
 14|At line 7 of the log|creduce: replay: line 7|f.c.log|f.c
 ";
 
-fn seen(file: Option<&[u8]>) -> Seen<'_> {
+fn seen(file: Option<&[u8]>, place: Option<Place>) -> Seen<'_> {
     Seen {
         folder: "/here",
         file,
+        place,
         test: TestSeen::Absent,
         documents: "/docs",
     }
@@ -114,7 +116,7 @@ fn words_in(alloc: Global, line: &str) -> Result<Vec<String>, AllocError> {
 fn expect_words(rt: &impl Abort, alloc: Global, line: &str) -> Result<(), AllocError> {
     let wanted = line.split('|').next().unwrap_or("");
     let words = words_in(alloc, line)?;
-    let text = explanation(alloc, words.as_slice(), 2, "", seen(None))?;
+    let text = explanation(alloc, words.as_slice(), 2, "", seen(None, None))?;
     expect_part(rt, &text, wanted, line);
     Ok(())
 }
@@ -139,13 +141,19 @@ fn expect_file(rt: &impl Abort, alloc: Global, row: &str) -> Result<(), AllocErr
     let file = lines_of(alloc, cells.next().unwrap_or(""))?;
     let status: u8 = if end.contains("subset") { 4 } else { 5 };
     let line = format!(in alloc; "creduce: f.c:{end}")?;
+    let bytes = file.as_str().as_bytes();
+    let place = if status == 4 {
+        first_place(alloc, bytes)?
+    } else {
+        None
+    };
     let words = words_in(alloc, "|has:x|f.c")?;
     let text = explanation(
         alloc,
         words.as_slice(),
         status,
         line.as_str(),
-        seen(Some(file.as_str().as_bytes())),
+        seen(Some(bytes), place),
     )?;
     expect_part(rt, &text, wanted.as_str(), row);
     Ok(())
@@ -158,7 +166,7 @@ fn expect_end(rt: &impl Abort, alloc: Global, row: &str) -> Result<(), AllocErro
     let line = cells.next().unwrap_or("");
     let places = format!(in alloc; "|{}", cells.next().unwrap_or(""))?;
     let words = words_in(alloc, places.as_str())?;
-    let text = explanation(alloc, words.as_slice(), status, line, seen(None))?;
+    let text = explanation(alloc, words.as_slice(), status, line, seen(None, None))?;
     expect_part(rt, &text, wanted, row);
     Ok(())
 }
