@@ -1,5 +1,5 @@
 -- The rows of refusals, one behind the other.
-use Rattle.std.proofs.Common.{◌≡◌, Option, Some, None, refl, sym, subst, ap, ◌∙◌}
+use Rattle.std.proofs.Common.{◌≡◌, ◌⊎◌, Option, Some, None, inl, inr, refl, sym, subst, ap, ◌∙◌}
 use Rattle.std.specs.Option.{option_or}
 use Rattle.cr_start.specs.Refusals.{Answers, Else, Row}
 use Rattle.cr_start.specs.declared.refusal.Refusal.{Refusal}
@@ -15,7 +15,7 @@ abbrev pub Front : Type 1
 Front = (Option Refusal → Type 0) → Option Refusal → Type 0
 
 -- these rows and one more
-pub next : Front → Row → Front
+abbrev pub next : Front → Row → Front
 next front row behind = front (Else row behind)
 
 -- an answer to these rows
