@@ -19,7 +19,7 @@ pub fn begun(rt: &HostRuntime, run: &Subject<'_>) -> Result<Option<Begun>, Alloc
             facts: &facts,
             test: run.test,
         };
-        let _ = rt.eprintln(saying);
+        let _ = eprintln!(rt; "{saying}");
         return Ok(None);
     }
     say_changed(rt, run, name, &facts.begun);

@@ -57,7 +57,7 @@ pub fn explain(rt: &HostRuntime, words: &[String], ended: &Ended) -> Result<(), 
 }
 
 fn documents(rt: &HostRuntime) -> Result<String, AllocError> {
-    match rt.canonicalize(rt.alloc(), "/proc/self/exe") {
+    match fs::canonicalize(rt, "/proc/self/exe") {
         Ok(program) => documents_of(rt.alloc(), program.as_str()),
         Err(_) => documents_of(rt.alloc(), ""),
     }

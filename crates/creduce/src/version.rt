@@ -3,6 +3,7 @@ use crate::refused::program_sum;
 use cr_start::recorded;
 use creduce_system::read_most;
 use std::alloc::AllocError;
+use std::fs;
 
 /// The most bytes of a record.
 const MOST: usize = 65_536;
@@ -30,7 +31,7 @@ pub fn version(rt: &HostRuntime) -> Result<u8, AllocError> {
 
 fn record(rt: &HostRuntime) -> Result<Option<String>, AllocError> {
     let alloc = rt.alloc();
-    let Ok(program) = rt.canonicalize(alloc, "/proc/self/exe") else {
+    let Ok(program) = fs::canonicalize(rt, "/proc/self/exe") else {
         return Ok(None);
     };
     let path = format!(in alloc; "{}.record", program.as_str())?;

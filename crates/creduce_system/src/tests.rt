@@ -84,7 +84,7 @@ fn a_file_and_its_copy_have_its_mode_and_an_older_copy_is_kept(rt: HostRuntime) 
 fn a_file_goes_on_under_all_its_names(rt: HostRuntime) -> io::Result<()> {
     let alloc = rt.alloc();
     make(&rt, "creduce-test-a.c", "int a;", OWN)?;
-    rt.hard_link("creduce-test-a.c", "creduce-test-b.c")?;
+    fs::hard_link(&rt, "creduce-test-a.c", "creduce-test-b.c")?;
     symlink(&rt, "creduce-test-a.c", "creduce-test-c.c")?;
     symlink(&rt, "creduce-test-c.c", "creduce-test-c.c.orig")?;
     let mut files = StdFiles::new(&rt, Some("creduce-test-c.c"));
@@ -144,8 +144,8 @@ fn a_variant_is_alone_in_its_folder(rt: HostRuntime) -> io::Result<()> {
     fs::rename(&rt, "creduce-trial-9", "creduce-test-moved")?;
     symlink(&rt, "creduce-test-kept", "creduce-trial-9")?;
     assert!(rt; is_alone(&rt, &mut judge)?);
-    rt.remove_dir_all(rt.alloc(), "creduce-trial-9")?;
-    rt.remove_dir_all(rt.alloc(), "creduce-test-moved")?;
+    fs::remove_dir_all(&rt, "creduce-trial-9")?;
+    fs::remove_dir_all(&rt, "creduce-test-moved")?;
     assert!(rt; had(&rt, "creduce-test-kept/kept", "kept", 0o644)?);
     fs::remove_dir(&rt, "creduce-test-kept")
 }
@@ -188,5 +188,5 @@ fn the_smallest_file_that_passed_is_kept(rt: HostRuntime) -> io::Result<()> {
     assert!(rt; had(&rt, "noted.c.best.1", "int d;", 0o644)?);
     assert!(rt; had(&rt, "noted.c.best", "int b;", OWN)?);
     fs::remove_file(&rt, "noted.c")?;
-    rt.remove_dir_all(rt.alloc(), "creduce-trial-8")
+    fs::remove_dir_all(&rt, "creduce-trial-8")
 }
