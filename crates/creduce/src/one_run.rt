@@ -93,7 +93,8 @@ pub fn run(
     }
 }
 
-fn is_quiet(rt: &HostRuntime) -> bool {
+/// Whether the environment asks for no more than what is needed.
+pub fn is_quiet(rt: &HostRuntime) -> bool {
     match env::var(rt, "CREDUCE_QUIET") {
         Ok(quiet) => quiet.as_str() == "1",
         Err(_) => false,

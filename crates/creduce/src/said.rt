@@ -1,5 +1,5 @@
 // What is said on standard error when a run has ended.
-use crate::one_run::Ended;
+use crate::one_run::{Ended, is_quiet};
 use cr_explain::{Seen, TestSeen, explanation, places_of, refused};
 use cr_explain_place::first_place;
 use cr_start::documents_of;
@@ -13,47 +13,53 @@ const MOST: usize = 1 << 25;
 
 /// Says what a person needs beside the status and the program's line, where quiet isn't asked for. What can't be said stays unsaid.
 pub fn explain(rt: &HostRuntime, words: &[String], ended: &Ended) -> Result<(), AllocError> {
-    let is_quiet = match env::var(rt, "CREDUCE_QUIET") {
-        Ok(quiet) => quiet.as_str() == "1",
-        Err(_) => false,
-    };
-    if is_quiet || !matches!(ended.status, 2..=6 | 8 | 12..=14) {
+    if is_quiet(rt) || !matches!(ended.status, 2..=6 | 8 | 12..=14) {
         return Ok(());
     }
     let put = String::from_utf8_lossy(rt.alloc(), ended.put.as_slice())?;
-    let line = put.as_str().trim_end();
+    let text = text_of(rt, words, ended.status, put.as_str().trim_end())?;
+    let _ = eprint!(rt; "{text}");
+    Ok(())
+}
+
+fn text_of(
+    rt: &HostRuntime,
+    words: &[String],
+    status: u8,
+    line: &str,
+) -> Result<String, AllocError> {
     let places = places_of(rt.alloc(), words)?;
     let test = places.first().copied().unwrap_or("");
     let named = match refused(line) {
         Some(refused) => refused.name,
         None => places.get(1).copied().unwrap_or(""),
     };
-    // A word in no form may name anything, a pipe too.
-    let file = match ended.status {
-        2 => None,
-        _ => read_most(rt, rt.alloc(), named, MOST).ok(),
-    };
+    // A word in no form may name anything.
+    let file = bytes_of(rt, named, status != 2);
     // Of a run that isn't defined the line says all that is known of the place.
-    let place = match (ended.status, &file) {
+    let place = match (status, &file) {
         (4, Some(file)) => first_place(rt.alloc(), file.as_slice())?,
         _ => None,
     };
     let folder = env::var(rt, "PWD").ok();
-    let bytes = match ended.status {
-        8 => read_most(rt, rt.alloc(), test, MOST).ok(),
-        _ => None,
-    };
+    let script = bytes_of(rt, test, status == 8);
     let documents = documents(rt)?;
     let seen = Seen {
         folder: folder.as_ref().map_or(".", |folder| folder.as_str()),
         file: file.as_ref().map(|file| file.as_slice()),
         place,
-        test: test_seen(rt, test, bytes.as_ref()),
+        test: test_seen(rt, test, script.as_ref()),
         documents: documents.as_str(),
     };
-    let text = explanation(rt.alloc(), words, ended.status, line, seen)?;
-    let _ = eprint!(rt; "{text}");
-    Ok(())
+    explanation(rt.alloc(), words, status, line, seen)
+}
+
+fn bytes_of(rt: &HostRuntime, name: &str, is_wanted: bool) -> Option<Vec<u8>> {
+    if is_wanted {
+        read_most(rt, rt.alloc(), name, MOST).ok()
+    } else {
+        None
+    }
 }
 
 fn documents(rt: &HostRuntime) -> Result<String, AllocError> {
