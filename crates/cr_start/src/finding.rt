@@ -1,7 +1,7 @@
 // The word that is the test.
 
-/// The flags, behind which no value stands.
-const FLAGS: [&str; 4] = ["--journal", "--resume", "--standing", "--any-order"];
+/// The options whose value may stand in the next word; the others are flags.
+const VALUED: [&str; 5] = ["--workers", "--window", "--limit", "--steps", "--passes"];
 
 /// The word that is the test, of words that ask for a reduction: the first that is no option and no option's value.
 pub fn test_word(words: &[String]) -> Option<&str> {
@@ -15,7 +15,7 @@ pub fn test_word(words: &[String]) -> Option<&str> {
         } else if !word.starts_with("--") {
             return Some(word);
         } else {
-            is_value = !word.contains('=') && !FLAGS.contains(&word);
+            is_value = VALUED.contains(&word);
         }
     }
     None
