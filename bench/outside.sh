@@ -168,6 +168,10 @@ printf 'int main(void) { return 7; }\n' >f.c && call --resume has:main f.c
 is 'FILE was changed since' '[ $status = 1 ] && [[ $out$err == *"creduce: changed since the journal: f.c"* ]] && [ "$(<f.c)" = "int main(void) { return 7; }" ]'
 cp f.c.orig f.c && call --resume has:main f.c
 is 'and goes on from the copy again' '[ $status = 0 ]'
+fresh && call --journal --limit 1 has:main f.c && cp f.c reached.c && last=$status && call --resume --limit 1 has:main f.c
+is 'a run that came to its limit is gone on from: the same end' '[ $last = 7 ] && [ $status = 7 ] && cmp -s f.c reached.c'
+call --resume has:main f.c
+is 'with another limit: refused, or gone on with, and FILE stays whole' '[ $status = 13 ] && cmp -s f.c reached.c || [ $status = 0 ]'
 fresh && rm f.c && call --journal has:main f.c
 is 'no words stay where no journal was begun' '[ $status = 3 ] && [ ! -e f.c.journal-words ]'
 
@@ -317,7 +321,10 @@ if mount -t tmpfs -o size=64k tmpfs full 2>/dev/null; then
     printf 'int main(void) { return 0; }\n/*%s*/\n' "$(head -c 20000 /dev/zero | tr '\0' 'x')" >full/f.c && cp full/f.c whole.c
     head -c 20000 /dev/zero >full/filling
     call has:main full/f.c
-    is 'a full disk: 9, and FILE as it was' '[ $status = 9 ] && cmp -s full/f.c whole.c'
+    is 'no room for the result: 9, and FILE as it was, or 0' '[ $status = 9 ] && cmp -s full/f.c whole.c || [ $status = 0 ]'
+    rm -f full/f.c.* && cp whole.c full/f.c && head -c 40000 /dev/zero >full/filling
+    call has:main full/f.c
+    is 'no room for the copy: 9, and FILE as it was' '[ $status = 9 ] && cmp -s full/f.c whole.c'
     umount full
 else
     echo "not tried: a full disk, since nothing could be mounted"
