@@ -218,19 +218,19 @@ is 'one that needs no folders runs' '[ $status = 0 ]'
 lists() { printf 'int a%s;\n' $(seq 30); printf 'int main(void) { return 0; }\n'; }
 false_ones=0 refused=0
 for name in one two three four five; do
-    mkdir $name && lists >$name/f.c && lists >$name/g.c
-    printf '#!/bin/sh\ngrep -q "a7;" f.c && cp f.c ../seen.$$ && sleep 0.01 && cmp -s f.c ../seen.$$ && rm ../seen.$$\n' >$name/f.sh
-    printf '#!/bin/sh\ngrep -q "a9;" g.c\n' >$name/g.sh
+    mkdir -p $name/f $name/g && lists >$name/f/f.c && lists >$name/g/f.c
+    printf '#!/bin/sh\nsleep 0.01\ngrep -q "a7;" f.c\n' >$name/f.sh
+    printf '#!/bin/sh\nsleep 0.01\ngrep -q "a9;" f.c\n' >$name/g.sh
     chmod +x $name/*.sh
-    (cd $name && exec timeout 60 "$program" ./f.sh f.c) >one.txt 2>&1 </dev/null &
+    (cd $name && exec timeout 60 "$program" ./f.sh f/f.c) >one.txt 2>&1 </dev/null &
     other=$!
-    (cd $name && exec timeout 60 "$program" ./g.sh g.c) >two.txt 2>&1 </dev/null
+    (cd $name && exec timeout 60 "$program" ./g.sh g/f.c) >two.txt 2>&1 </dev/null
     last=$?
     wait $other
-    for ended in $? $last; do [ $ended = 0 ] || refused=$((refused + 1)); done
-    grep -q 'a7;' $name/f.c && grep -q 'a9;' $name/g.c || false_ones=$((false_ones + 1))
+    for ended in "$?" "$last"; do [ "$ended" = 0 ] || refused=$((refused + 1)); done
+    grep -q 'a7;' $name/f/f.c && grep -q 'a9;' $name/g/f.c || false_ones=$((false_ones + 1))
 done
-is "two runs at once, five times: no false result ($refused of ten refused)" '[ $false_ones = 0 ]'
+is "two runs at once, five times: no false result ($refused of ten end otherwise than with 0)" '[ $false_ones = 0 ]'
 kill -KILL $first
 wait $first 2>/dev/null
 call ./t.sh f.c
