@@ -42,10 +42,10 @@ done
 # same WHEN NUMBER: the file and the log are those of the test of this number without a stop.
 same() { cmp -s f.c "whole.result.$2" && cmp -s f.c.log "whole.log.$2" || failed "after $1 the file or the log is another"; }
 
-# killed NUMBER WORDS..: begins the program, lets it run for a random time, at most a third of what a whole reduction takes, and kills it;
+# killed NUMBER WORDS..: begins the program, lets it run for a random time, at most a tenth of what a whole reduction takes, and kills it;
 # fails where it ended before.
 killed() {
-    local most=$((whole[$1] / 3 + 1))
+    local most=$((whole[$1] / 10 + 1))
     shift
     "$program" "$@" "${words[@]}" >said.txt 2>&1 &
     local it=$!
