@@ -23,7 +23,7 @@ standing() {
 }
 
 # The tests, by turns: each reduction takes the next of them, and the next number of workers.
-tests=(./slow.sh has:clamp 'if:and(has("clamp"),same)')
+tests=(./slow.sh has:clamp 'if:and(has("clamp"),has("printf"))')
 
 # milliseconds: since the machine began.
 milliseconds() { read -r now _ </proc/uptime && echo "${now/./}0"; }
