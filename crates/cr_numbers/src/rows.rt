@@ -36,16 +36,50 @@ pub struct Row {
 pub fn row_of(kind: Kind, number: u8) -> Option<Row>
     ensures { 1 ≤ number → number ≤ last_of kind → IsSome result }
 {
-    let index = usize::from(number).checked_sub(1)?;
-    let row = match kind {
-        Kind::Token => TOKENS.get(index)?,
-        Kind::Parse => PARSES.get(index)?,
-        Kind::Name => NAMES.get(index)?,
-        Kind::Type => TYPES.get(index)?,
-        Kind::Undefined => UNDEFINED.get(index)?,
-        Kind::Left => LEFT.get(index)?,
-    };
-    Some(*row)
+    match kind {
+        Kind::Token => token_row(number),
+        Kind::Parse => parse_row(number),
+        Kind::Name => name_row(number),
+        Kind::Type => constraint_row(number),
+        Kind::Undefined => undefined_row(number),
+        Kind::Left => left_row(number),
+    }
+}
+
+fn token_row(number: u8) -> Option<Row>
+    ensures { 1 ≤ number → number ≤ 5 → IsSome result }
+{
+    TOKENS.get(usize::from(number).checked_sub(1)?).copied()
+}
+
+fn parse_row(number: u8) -> Option<Row>
+    ensures { 1 ≤ number → number ≤ 4 → IsSome result }
+{
+    PARSES.get(usize::from(number).checked_sub(1)?).copied()
+}
+
+fn name_row(number: u8) -> Option<Row>
+    ensures { 1 ≤ number → number ≤ 2 → IsSome result }
+{
+    NAMES.get(usize::from(number).checked_sub(1)?).copied()
+}
+
+fn constraint_row(number: u8) -> Option<Row>
+    ensures { 1 ≤ number → number ≤ 43 → IsSome result }
+{
+    TYPES.get(usize::from(number).checked_sub(1)?).copied()
+}
+
+fn undefined_row(number: u8) -> Option<Row>
+    ensures { 1 ≤ number → number ≤ 16 → IsSome result }
+{
+    UNDEFINED.get(usize::from(number).checked_sub(1)?).copied()
+}
+
+fn left_row(number: u8) -> Option<Row>
+    ensures { 1 ≤ number → number ≤ 8 → IsSome result }
+{
+    LEFT.get(usize::from(number).checked_sub(1)?).copied()
 }
 
 /// The row of one of the nine forms of parse 4.
