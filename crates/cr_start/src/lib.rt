@@ -1,6 +1,6 @@
 //! What a run says before its first test, as functions of what was found: why it doesn't begin, the words that stand beside a journal, what the
 //! lock of the trial folders says, and words as a shell takes them. `refusal_of` gives the first row of the rows of refusals that holds
-//! of the facts. Stands on std.
+//! of the facts; `documents_of` and `recorded` tell what belongs to the program. Stands on std.
 #![tactic(auto)]
 
 mod facts;
