@@ -23,6 +23,7 @@ pub fn formula_fault(alloc: Global, formula: &str) -> Result<String, AllocError>
 }
 
 // What is seen of a formula outside its texts.
+#[derive(Drop)]
 struct Look<'a> {
     unquoted: bool,
     stranger: Option<&'a str>,
