@@ -1,5 +1,5 @@
 // What is said beside each status.
-use crate::lines::refused;
+use crate::lines::read_refusal;
 use crate::options::{FLAGS, VALUED};
 use crate::place::Place;
 use crate::refusals::refusal_text;
@@ -117,7 +117,7 @@ fn absent_text(alloc: Global, file: &str, line: &str, folder: &str) -> Result<St
 }
 
 fn refused_text(alloc: Global, line: &str, seen: Seen<'_>) -> Result<String, AllocError> {
-    let Some(refused) = refused(line) else {
+    let Some(refused) = read_refusal(line) else {
         return Ok(String::new(alloc));
     };
     let mut text = match seen.file {

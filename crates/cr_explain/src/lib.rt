@@ -22,7 +22,7 @@ mod words;
 pub use asked::{asked_text, help_text};
 pub use ends::{Seen, TestSeen, explanation, places_of};
 pub use extensions::extension_remedy;
-pub use lines::{Refused, refused};
+pub use lines::{Refused, read_refusal};
 pub use place::{Place, is_of_library, text_at};
 pub use refusals::refusal_text;
 pub use words::word_fault;

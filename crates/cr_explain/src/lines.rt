@@ -11,7 +11,7 @@ pub struct Refused<'a> {
 }
 
 /// Reads such a line. The name may have colons, so it is read from its end.
-pub fn refused(line: &str) -> Option<Refused<'_>> {
+pub fn read_refusal(line: &str) -> Option<Refused<'_>> {
     let rest = line.strip_prefix("creduce: ")?;
     let (rest, number) = rest.rsplit_once(": ")?;
     let (rest, stage) = rest.rsplit_once(": ")?;

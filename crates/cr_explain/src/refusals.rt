@@ -1,7 +1,7 @@
 // What a person needs beside a refusal.
 use crate::place::Place;
 use crate::remedies::remedy;
-use crate::shown::{position, push_line};
+use crate::shown::{position_of, push_line};
 use cr_numbers::{Kind, form_text, number_text, push_folded};
 use std::alloc::{AllocError, Global};
 
@@ -20,7 +20,7 @@ pub fn refusal_text(
     let fault = place.map(|place| place.start);
     // K40 is put at the last token; what it is about stands before.
     let line = match fault {
-        Some(at) if kind == Kind::Type => position(file, at).line as u64,
+        Some(at) if kind == Kind::Type => position_of(file, at).line as u64,
         _ => line,
     };
     push_line(alloc, &mut text, name, file, line, fault)?;

@@ -1,7 +1,7 @@
 // What can be done about a fault, by what stands there.
 use crate::extensions::extension_remedy;
 use crate::place::{Place, is_of_library};
-use crate::shown::{Position, position};
+use crate::shown::{Position, position_of};
 use cr_numbers::Kind;
 use std::alloc::{AllocError, Global};
 
@@ -21,9 +21,9 @@ pub fn remedy(
     };
     match (kind, number) {
         (Kind::Parse, 1) => misfit(alloc, file, place, spelled),
-        (Kind::Name, 1) => Ok(Some(unknown_name(alloc, spelled, position(file, place.start))?)),
+        (Kind::Name, 1) => Ok(Some(unknown_name(alloc, spelled, position_of(file, place.start))?)),
         (Kind::Type, 40) => {
-            let at = position(file, place.start);
+            let at = position_of(file, place.start);
             let text = format!(in alloc;
                 "{spelled} is used in {at}, and the file doesn't define it: give it a short body"
             )?;

@@ -21,7 +21,7 @@ impl Display for Position {
 }
 
 /// Where this byte of a file stands.
-pub fn position(file: &[u8], at: usize) -> Position {
+pub fn position_of(file: &[u8], at: usize) -> Position {
     let mut position = Position { line: 1, column: 1 };
     for byte in file.iter().take(at) {
         if *byte == b'\n' {

@@ -2,7 +2,7 @@
 use Rattle.std.specs.Prelude.{ℕ}
 use Rattle.cr_numbers.specs.declared.rows.Kind.{Kind}
 
-pub last_of : Kind → ℕ
+abbrev pub last_of : Kind → ℕ
 last_of Kind.Token = 5
 last_of Kind.Parse = 4
 last_of Kind.Name = 2

@@ -2,7 +2,9 @@
 ghost use Rattle.std.specs.Prelude.{◌≡◌, ◌≤◌, IsSome};
 ghost use Rattle.cr_numbers.specs.Last.{last_of};
 
-use crate::tables::{FORMS, LEFT, NAMES, PARSES, TOKENS, TYPES, UNDEFINED};
+use crate::tables::{
+    FORMS, LEFT, NAMES, PARSES, TOKENS, TYPES_TO_16, TYPES_TO_32, TYPES_TO_43, UNDEFINED,
+};
 
 /// Of what a number is.
 #[derive(Clone, Copy, Debug, PartialEq, Eq)]
@@ -64,10 +66,39 @@ fn name_row(number: u8) -> Option<Row>
     NAMES.get(usize::from(number).checked_sub(1)?).copied()
 }
 
+// Its rows stand in three tables.
 fn constraint_row(number: u8) -> Option<Row>
     ensures { 1 ≤ number → number ≤ 43 → IsSome result }
 {
-    TYPES.get(usize::from(number).checked_sub(1)?).copied()
+    match number {
+        0..=16 => constraint_row_to_16(number),
+        17..=32 => constraint_row_to_32(number - 16),
+        _ => constraint_row_to_43(number - 32),
+    }
+}
+
+fn constraint_row_to_16(number: u8) -> Option<Row>
+    ensures { 1 ≤ number → number ≤ 16 → IsSome result }
+{
+    TYPES_TO_16
+        .get(usize::from(number).checked_sub(1)?)
+        .copied()
+}
+
+fn constraint_row_to_32(number: u8) -> Option<Row>
+    ensures { 1 ≤ number → number ≤ 16 → IsSome result }
+{
+    TYPES_TO_32
+        .get(usize::from(number).checked_sub(1)?)
+        .copied()
+}
+
+fn constraint_row_to_43(number: u8) -> Option<Row>
+    ensures { 1 ≤ number → number ≤ 11 → IsSome result }
+{
+    TYPES_TO_43
+        .get(usize::from(number).checked_sub(1)?)
+        .copied()
 }
 
 fn undefined_row(number: u8) -> Option<Row>

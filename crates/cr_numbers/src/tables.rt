@@ -153,7 +153,7 @@ pub static NAMES: [Row; 2] = [
     },
 ];
 
-pub static TYPES: [Row; 43] = [
+pub static TYPES_TO_16: [Row; 16] = [
     Row {
         what: "the type specifiers of a declaration are together one type of the list, in any order",
         at: "the first specifier",
@@ -266,6 +266,9 @@ pub static TYPES: [Row; 43] = [
         broken: "`int f(void) { return 0; } int main(void) { return f; }`",
         kept: "`int f(void) { return 0; } int main(void) { return f(); }`",
     },
+];
+
+pub static TYPES_TO_32: [Row; 16] = [
     Row {
         what: "what is called is a function, with as many arguments as it has parameters, `printf` with at least one",
         at: "the called name",
@@ -378,6 +381,9 @@ pub static TYPES: [Row; 43] = [
         broken: "`int *p; int main(void) { return p < 0; }`",
         kept: "`int *p; int main(void) { return p < p; }`",
     },
+];
+
+pub static TYPES_TO_43: [Row; 11] = [
     Row {
         what: "`==` and `!=` have integers, pointers to compatible types, a pointer and the constant 0, or a pointer and a pointer to void",
         at: "the operator",

@@ -1,6 +1,6 @@
 // What is said on standard error when a run has ended.
 use crate::one_run::{Ended, is_quiet};
-use cr_explain::{Seen, TestSeen, explanation, places_of, refused};
+use cr_explain::{Seen, TestSeen, explanation, places_of, read_refusal};
 use cr_explain_place::first_place;
 use cr_start::documents_of;
 use creduce_system::read_most;
@@ -30,7 +30,7 @@ fn text_of(
 ) -> Result<String, AllocError> {
     let places = places_of(rt.alloc(), words)?;
     let test = places.first().copied().unwrap_or("");
-    let named = match refused(line) {
+    let named = match read_refusal(line) {
         Some(refused) => refused.name,
         None => places.get(1).copied().unwrap_or(""),
     };
