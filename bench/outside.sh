@@ -149,7 +149,7 @@ the byte 0xC3|int \0303\0244;\nint main(void) { return 0; }\n
 `asm`|int main(void) { asm volatile ("nop"); return 0; }\n
 unsigned long|int main(void) { __int128 x = 1; return 0; }\n
 write the type itself|int main(void) { int x = 1; typeof(x) y = x; return y; }\n
-put their types into the list|int f(x) int x; { return x; }\nint main(void) { return f(0); }\n
+`x` is no type that is declared before|int f(x) int x; { return x; }\nint main(void) { return f(0); }\n
 a range of cases|int main(void) { switch (1) { case 1 ... 3:; } return 0; }\n
 `__attribute__`|int f(void) __attribute__((pure));\nint main(void) { return 0; }\n
                        ^|int main(void) {\n    return 1 + 2 + 3 + x;\n}\n

@@ -9,6 +9,8 @@ pub struct Place {
     pub form: u8,
     /// Of parse 1, the bytes of a word in front of it that C11 hasn't, by which the parser may have come to it.
     pub cause: Option<(usize, usize)>,
+    /// Of parse 1, whether an identifier stands there.
+    pub is_name: bool,
 }
 
 impl Place {

@@ -112,8 +112,28 @@ fn misfit(
     }
     match extension_remedy(spelled).or(token_remedy(spelled)) {
         Some(text) => Ok(Some(format!(in alloc; "`{spelled}`: {text}")?)),
+        None if place.is_name && wants_type(file, place.start) => {
+            let text = format!(in alloc;
+                "`{spelled}` is no type that is declared before: a header may have it (creduce-prepare), or, where parameters are declared behind their list, put their types into the list"
+            )?;
+            Ok(Some(text))
+        }
         None => Ok(None),
     }
+}
+
+// Whether what stands at this byte of a file begins a declaration, by the byte in front of it.
+fn wants_type(file: &[u8], start: usize) -> bool {
+    let front = match file.get(..start) {
+        Some(front) => front,
+        None => return false,
+    };
+    for byte in front.iter().rev() {
+        if !byte.is_ascii_whitespace() {
+            return matches!(*byte, b'(' | b',' | b';' | b'}');
+        }
+    }
+    true
 }
 
 // The same of punctuators and keywords.

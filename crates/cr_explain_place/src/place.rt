@@ -9,7 +9,7 @@ use cr_explain::{Place, extension_remedy, is_of_library, text_at};
 use cr_exprs_descent::ParseFault;
 use cr_scopes::{NameFault, Names, resolve_whole};
 use cr_syntax::{Unit, tokens_are_spans};
-use cr_tokens::{Token, TokenFault, Tokens, read};
+use cr_tokens::{Token, TokenFault, TokenKind, Tokens, read};
 use std::alloc::{AllocError, Global};
 
 /// In front of a token that fits nowhere so many tokens are looked at.
@@ -22,6 +22,7 @@ fn byte(at: u32) -> Place {
         end: start.saturating_add(1),
         form: 0,
         cause: None,
+        is_name: false,
     }
 }
 
@@ -32,13 +33,20 @@ fn place_of(tokens: &[Token], number: usize, form: u8) -> Option<Place> {
         end: token.end as usize,
         form,
         cause: None,
+        is_name: false,
     })
 }
 
 // A token that fits nowhere.
 fn misfit(file: &[u8], tokens: &[Token], number: usize) -> Option<Place> {
     let cause = cause(file, tokens, number);
-    place_of(tokens, number, 0).map(|place| Place { cause, ..place })
+    let is_name = matches!(tokens.get(number)?.kind, TokenKind::Identifier);
+    let place = place_of(tokens, number, 0)?;
+    Some(Place {
+        cause,
+        is_name,
+        ..place
+    })
 }
 
 /// Where the first fault of a file's tokens, its parse, its names or its types stands. Of K40, which stands at the last token, it is the first
