@@ -20,7 +20,7 @@ use cr_footprint::Foot;
 use cr_ints::IntKind;
 use cr_eval_join::{Part, join_two};
 use cr_meaning::{Access, Change, Form, Limits, Op, Operator, Value, Work};
-use cr_memory::{Guard, Pointer, Scalar, Store};
+use cr_memory::{Element, Guard, Pointer, Scalar, Store};
 use cr_rows::Row;
 
 const TIMES: u64 = 50_000_000;
@@ -42,7 +42,7 @@ fn op(alloc: Global, work: Work, access: Access) -> Op {
 }
 
 fn place() -> Value {
-    Value::Place(Pointer::At { object: 0, cell: 1, low: 0, high: 3, stride: 1 })
+    Value::Place(Pointer::At { object: 0, cell: 1, low: 0, high: 3, element: Element { cells: 1, of: 6 } })
 }
 
 // Each operand is drawn from the value before, so that no call can be left out.

@@ -40,7 +40,7 @@ use std::io;
 use std::time::Instant;
 
 use cr_ints::IntKind;
-use cr_memory::{Cell, Guard, Pointer, Scalar, Store};
+use cr_memory::{Cell, Element, Guard, Pointer, Scalar, Store};
 
 const INT: Scalar = Scalar::Int(IntKind::Int);
 const SHAPE: [(Scalar, Guard); 3] = [(INT, Guard::Free); 3];
@@ -211,7 +211,7 @@ fn print_memory(rt: &HostRuntime) -> io::Result<()> {
 fn print_accesses(rt: &HostRuntime) -> io::Result<()> {
     let mut store = Store::new(rt.alloc(), 1000);
     let _ = store.enter(&[(INT, Guard::Free); 100], true);
-    let at = Pointer::At { object: 0, cell: 50, low: 0, high: 100, stride: 1 };
+    let at = Pointer::At { object: 0, cell: 50, low: 0, high: 100, element: Element { cells: 1, of: 6 } };
     if store.is_pointer(at) {
         let start = Instant::now(rt)?;
         let answers = loads(&store, at);
@@ -236,8 +236,8 @@ fn print_structures(rt: &HostRuntime) -> io::Result<()> {
     let start = Instant::now(rt)?;
     let answers = begins(&mut store, 0);
     println!(rt; "timed begin {} {}", answers, start.elapsed(rt)?.as_micros())?;
-    let from = Pointer::At { object: 0, cell: 0, low: 0, high: 3, stride: 3 };
-    let to = Pointer::At { object: 1, cell: 0, low: 0, high: 3, stride: 3 };
+    let from = Pointer::At { object: 0, cell: 0, low: 0, high: 3, element: Element { cells: 3, of: 13 } };
+    let to = Pointer::At { object: 1, cell: 0, low: 0, high: 3, element: Element { cells: 3, of: 13 } };
     if store.is_pointer(from) {
         let start = Instant::now(rt)?;
         let answers = takes(rt.alloc(), &store, from, &[INT; 3]);
