@@ -1,4 +1,5 @@
-use Rattle.cr_main_kept.proofs.Stories.{started_length}
+use Rattle.std.proofs.Common.{inl, refl}
+use Rattle.cr_main_kept.proofs.Stories.{opened_so, opening_of, started_length}
 use Rattle.cr_main_kept.proofs.journal.start.Goals as goal
 
 pub returns-in-Ok-clause-length : goal.returns-in-Ok-clause-length
