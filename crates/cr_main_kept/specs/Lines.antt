@@ -5,6 +5,10 @@ use Rattle.cr_journal_rows.specs.declared.fault.JournalFault.{JournalFault}
 use Rattle.cr_journal_rows.specs.declared.fault.JournalFault.TheVariants as fault
 use Rattle.cr_main_task.specs.Outside.{Says}
 
+-- the journal of a file stands beside it
+abbrev pub journal_name : List ℕ → List ℕ
+journal_name name = name ++ codes ".journal"
+
 abbrev pub fault_line : List ℕ → List ℕ
 fault_line name = codes "creduce: journal fault: " ++ name ++ codes ".journal" ++ 10 ∷ []
 
