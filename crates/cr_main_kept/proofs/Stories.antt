@@ -130,6 +130,10 @@ pub rests_read : (rows : List Accepted) (told : Option Story) (name : List ℕ) 
 rests_read rows None name most outcome rests = rests
 rests_read rows (Some s) name most outcome rests = rests
 
+pub rests_opened : (rows : List Accepted) (told : Option Story) (name : List ℕ) → Rests rows told → Rests rows (with_event (Opened name) told)
+rests_opened rows None name rests = rests
+rests_opened rows (Some s) name rests = rests
+
 -- the length that a start answers is the told file's
 pub started_length : (told : Option Story) (result : Result ℕ DiskFault) (ready : Bool) (size : ℕ) → (ready ≡ true → HasLength told size) → OnOk result (ready ≡ true)
     → IfOk result (λ len. size ≡ len) → IfOk result (HasLength told)

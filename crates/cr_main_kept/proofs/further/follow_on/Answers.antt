@@ -1,4 +1,5 @@
 use Rattle.std.proofs.Common.{ℕ, List, length, Some, Err, ap, refl, subst, sym, ◌∙◌}
+use Rattle.cr_journal.specs.Keeping.{Rests}
 use Rattle.cr_journal.specs.Replay.{IsReplayed}
 use Rattle.cr_outside.specs.Question.{Says}
 use Rattle.cr_reduce.specs.Bench.{judging, says_of}
@@ -7,8 +8,8 @@ use Rattle.cr_journal_rows.specs.declared.fault.JournalFault.{JournalFault}
 use Rattle.cr_reduce.specs.declared.end.Accepted.{Accepted}
 use Rattle.cr_main_kept.specs.Kept.{EndsKept, IsShrunk}
 use Rattle.cr_main_kept.specs.Kept.FollowsOn.{closed, followed, shrunk, stopped}
-use Rattle.cr_main_kept.specs.Lines.{IsDiskFault}
-use Rattle.cr_main_kept.proofs.Stories.{disk_cause}
+use Rattle.cr_main_kept.specs.Lines.{IsDiskFault, journal_name}
+use Rattle.cr_main_kept.proofs.Stories.{disk_cause, rests_opened}
 use Rattle.cr_main_task.specs.Outside.{outside}
 use Rattle.cr_main_task.specs.Task.{task_for}
 use Rattle.cr_main_task.proofs.Others.{beyond}
@@ -37,6 +38,13 @@ pub returns-in-Some-clause-follows : goal.returns-in-Some-clause-follows
 returns-in-Some-clause-follows g c =
     shrunk (outside g.W.Outside c.begin.new.files g.O.Sink c.begin.new.out) c.in-Ok.size c.in-Ok-start.len c.in-Some.number c.in-Ok.ensures.begun c.in-Ok-start.ensures.opened c.in-Ok-start.ensures.length
     (subst (λ (rows : List Accepted). IsShrunk (length rows) c.in-Ok-start.len c.in-Some.number) c.in-Ok-replay.ensures.replayed.same c.in-Some.ensures.some) c.put_refused.ensures
+
+pub reduce_on-requires-clause-rests : goal.reduce_on-requires-clause-rests
+reduce_on-requires-clause-rests g c κs within =
+    let rows = c.args.rows.items in
+    subst (λ (kept : List Accepted). Rests kept (g.W.Outside.story c.start.new.disk)) (sym c.in-Ok-replay.ensures.replayed.same)
+    (subst (Rests rows) (sym c.in-Ok-start.ensures.opened) (rests_opened rows (g.W.Outside.story c.begin.new.files) (journal_name c.args.task.now.name.now)
+    (subst (Rests rows) (sym c.in-Ok.ensures.begun.copied.story) c.requires.rests)))
 
 pub returns-clause-follows : goal.returns-clause-follows
 returns-clause-follows g c =
