@@ -106,10 +106,7 @@ fn words(alloc: Global) -> Result<Vec<String>, AllocError> {
 }
 
 // The status of the run and what it puts.
-fn outcome(
-    rt: &(impl Threads + Wait + Sync),
-    alloc: Global,
-) -> Result<(u8, MemSink), AllocError> {
+fn outcome(rt: &(impl Threads + Wait + Sync), alloc: Global) -> Result<(u8, MemSink), AllocError> {
     let mut world = before(alloc)?;
     let mut bench = silent_bench(alloc, 1)?;
     let mut out = MemSink::new(alloc, Vec::new(alloc));
