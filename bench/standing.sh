@@ -1,10 +1,10 @@
 #!/usr/bin/env bash
 # Reductions by standing workers beside those that start their threads anew for each epoch.
 # By hand only: bench/standing.sh [COUNT]. First so many random reductions (1,000) with 1 to 32 workers, while twice as many loops run as
-# there are processors: file, log, summary and status have to be alike. Half of them ask `has:`, half a program that answers by the bytes'
-# checksum. Then, with nothing beside them, the time and the number of tests of a generated program, of one with a test of about a
-# millisecond and, where gcc 12 and clang are there, of examples/clamp. CREDUCE=PROGRAM takes another program than the launcher at the top, and
-# LOOPS=N has other loops beside them, where the machine has load enough.
+# there are processors: file, log, summary and status have to be alike. A third of them ask `has:`, a third a formula, and a third a program
+# that answers by the bytes' checksum, yes to one to four in five. Then, with nothing beside them, the time and the number of tests of a
+# generated program, of one with a test of about a millisecond and, where gcc 12 and clang are there, of examples/clamp. CREDUCE=PROGRAM takes
+# another program than the launcher at the top, and LOOPS=N has other loops beside them, where the machine has load enough.
 set -u
 here=$(cd "$(dirname "${BASH_SOURCE[0]}")" && pwd)
 . "$here/reductions.sh"
@@ -21,15 +21,29 @@ run() {
     cd ..
 }
 
-# A test that says yes to the whole file, and to one in three of the others.
+# A test that says yes to the whole file, and to one to four in five of the others.
 cat >chance.sh <<'SH'
 #!/bin/sh
 cmp -s f.c "$WHOLE" && exit 0
 set -- $(cksum <f.c)
-[ $((($1 + SEED) % 3)) -eq 0 ]
+[ $((($1 + SEED) % 5)) -le $((SEED / 3 % 4)) ]
 SH
 chmod +x chance.sh
 export WHOLE=$folder/whole.c
+
+# test_of NUMBER: a test that says yes to whole.c: a text, a formula or the program.
+test_of() {
+    local words word
+    words=$(grep -o '[a-z_][a-z_0-9]*' whole.c | sort -u)
+    word=$(sed -n "$((1 + $1 * 7919 % $(wc -l <<<"$words")))p" <<<"$words")
+    case $(($1 % 9)) in
+    0 | 3 | 6) test=has:$word ;;
+    1 | 4 | 7) test=$folder/chance.sh ;;
+    2) test=if:same ;;
+    5) test="if:has(\"$word\")" ;;
+    8) test="if:and(has(\"$word\"),or(same,not(has(\"nowhere\"))))" ;;
+    esac
+}
 
 loops=()
 for _ in $(seq "${LOOPS:-$((2 * $(nproc)))}"); do
@@ -43,12 +57,7 @@ for i in $(seq "$count"); do
     export SEED=$i
     workers=$((1 + i % 32))
     text_of "$i" $((1 + i % 6)) whole.c
-    if [ $((i % 2)) = 0 ]; then
-        words=$(grep -o '[a-z_][a-z_0-9]*' whole.c | sort -u)
-        test=has:$(sed -n "$((1 + i * 7919 % $(wc -l <<<"$words")))p" <<<"$words")
-    else
-        test=$folder/chance.sh
-    fi
+    test_of "$i"
     asked=(--workers "$workers" --window $((1 + i % 67)) --limit $((20 + i % 60)))
     run plain "${asked[@]}" "$test"
     run standing --standing "${asked[@]}" "$test"
