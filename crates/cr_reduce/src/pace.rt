@@ -4,28 +4,33 @@ ghost use Rattle.std.specs.Prelude.{◌≡◌, ◌<◌, ◌≤◌, false};
 use crate::end::Plan;
 
 /// How far a walk has come since its last acceptance, and so how far it guesses: a trial behind the first accepted variant is lost,
-/// and an acceptance is often followed by another. So behind one a quarter of the workers go on, over a few positions at a time;
-/// further on half of them do, and then all, over the whole window. A walk begins with all. No clause rests on it but that it stays
-/// within the plan.
+/// and an acceptance is often followed by another. So behind one a quarter of the workers go on, over a few tests at a time; further on
+/// half of them do, and then all, over the whole window. A walk begins with all. No clause rests on it but that it stays within the plan.
 #[derive(Drop)]
 pub struct Pace {
     /// Whether a judge is waited for. Where none is, whether guesses are worth it is the epoch's own matter.
     asks: bool,
     /// The positions gone over, each that the test refused counted as many.
     distance: u64,
+    /// The positions gone over lately, and the tests that were made of them.
+    passed: u64,
+    tests: u64,
 }
 
-/// As so many positions that the law refused counts one that the test refused.
-const REFUSED: u64 = 16;
+/// As so many positions of which no test was made counts one that the test refused.
+const REFUSED: u64 = 64;
 
 /// From this distance on half of the workers try the next positions, and up to it a quarter.
-const HALF_FROM: u64 = 16;
+const HALF_FROM: u64 = 64;
 
 /// From this distance on all do.
-const ALL_FROM: u64 = 64;
+const ALL_FROM: u64 = 256;
 
-/// Over how many positions for each worker an epoch goes in which not all work.
-const STRETCH: u32 = 4;
+/// How many tests for each worker an epoch is to have in which not all work.
+const STRETCH: u32 = 2;
+
+/// After so many positions the older ones count half.
+const LATELY: u64 = 1024;
 
 impl Pace {
     /// The pace of a walk before its first trial.
@@ -35,6 +40,8 @@ impl Pace {
         Pace {
             asks,
             distance: ALL_FROM,
+            passed: 0,
+            tests: 0,
         }
     }
 
@@ -54,9 +61,18 @@ impl Pace {
         let workers = plan.workers.div_ceil(part);
         Plan {
             workers,
-            window: plan.window.min(workers.saturating_mul(STRETCH)),
+            window: plan.window.min(self.stretch(workers)),
             limit: plan.limit,
         }
+    }
+
+    /// How many positions hold a few tests for each of so many workers, by what was gone over lately.
+    fn stretch(&self, workers: u32) -> u32
+        requires workers { 0 < workers }
+        ensures { 0 < result }
+    {
+        let for_each = (self.passed / self.tests.max(1)).max(1).min(4096) as u32;
+        workers.saturating_mul(STRETCH).saturating_mul(for_each)
     }
 
     /// An epoch went over so many positions, of which the test refused so many, and accepted none.
@@ -66,6 +82,12 @@ impl Pace {
     {
         let weighed = refused.saturating_mul(REFUSED);
         self.distance = self.distance.saturating_add(passed).saturating_add(weighed);
+        if self.passed > LATELY {
+            self.passed /= 2;
+            self.tests /= 2;
+        }
+        self.passed = self.passed.saturating_add(passed);
+        self.tests = self.tests.saturating_add(refused);
     }
 
     /// A variant was accepted.
@@ -74,5 +96,6 @@ impl Pace {
         ensures begins { self.new.distance ≡ 0 }
     {
         self.distance = 0;
+        self.tests = self.tests.saturating_add(1);
     }
 }
