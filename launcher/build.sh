@@ -133,7 +133,7 @@ build() {
     if ! flock -n 9; then
         say "another call builds the program: this one waits for it ($log has what it does)"
         flock 9
-        ! is_built || return 0
+        if is_built; then exec 9>&- && return 0; fi
     fi
     # The sums and times are those of before: what is edited meanwhile is seen by the next call.
     if ! { (sums) >"$folder/sums" && cut -c 67- "$folder/sums" >"$folder/files" && (times_of "$folder/files") >"$folder/times" && fill && begin; }; then
