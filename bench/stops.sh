@@ -1,18 +1,18 @@
 #!/usr/bin/env bash
-# Kills reductions that keep a journal, 200 times in all, each at a random moment, and goes on with each until it ends: the file and the
-# log have to be those of a reduction without a stop, and no record that stood may be gone. The file is examples/clamp/thermostat.c, the
-# test takes 50 ms, and four workers try it. Then the same on a full disk: it ends with 12, and goes on once there is room.
+# Kills reductions that keep a journal, 1,000 times in all, each at a random moment, and goes on with each until it ends: the file and the
+# log have to be those of a reduction without a stop, and no record that stood may be gone. The file is examples/clamp/thermostat.c; the
+# test is by turns a script that takes 50 ms, a text and a formula, by 1 to 8 workers. Then the same on a full disk: it ends with 12, and goes
+# on once there is room.
 # By hand only: bench/stops.sh [KILLS]. CREDUCE=PROGRAM takes another program than the launcher at the top. The full disk is a file system
 # in memory, which root alone may mount; TMPDIR names another disk for the rest than that of /tmp. A cut of the power isn't tried.
 set -u
 . "$(dirname "${BASH_SOURCE[0]}")/reductions.sh"
 top=$(cd "$(dirname "${BASH_SOURCE[0]}")/.." && pwd)
-most=${1:-200}
+most=${1:-1000}
 begin_reductions 0.05
 cp "$top/examples/clamp/thermostat.c" whole.c
 printf '#!/bin/sh\nsleep %s\ngrep -q clamp f.c && grep -q "for (" f.c && grep -q printf f.c\n' "$seconds" >slow.sh
 chmod +x slow.sh
-words=(--workers 4 ./slow.sh f.c)
 
 failed() { echo "FAILED: $*" >&2; exit 1; }
 
@@ -22,21 +22,36 @@ standing() {
     od -An -v -tu1 -w32 "$1" | awk -v bytes="$(wc -c <"$1")" '$1 == 1 && bytes >= 32 * NR + 1 { n = NR; next } { exit } END { print n + 0 }'
 }
 
-same() { cmp -s f.c whole.result && cmp -s f.c.log whole.log || failed "after $1 the file or the log is another"; }
+# The tests, by turns: each reduction takes the next of them, and the next number of workers.
+tests=(./slow.sh has:clamp 'if:and(has("clamp"),has("printf"))')
 
-cp whole.c f.c
-begun=$SECONDS
-"$program" "${words[@]}" >plain.txt || failed "the plain reduction ended with $?"
-whole=$((SECONDS - begun))
-echo "without a stop: $whole s, $(cat plain.txt)"
-mv f.c whole.result && mv f.c.log whole.log && rm -f f.c.orig
+# milliseconds: since the machine began.
+milliseconds() { read -r now _ </proc/uptime && echo "${now/./}0"; }
 
-# killed WORDS..: begins the program, lets it run for a random time, at most a third of what a whole reduction takes, and kills it; fails
-# where it ended before.
+# What each test comes to without a stop, and how long it takes.
+declare -A whole=()
+for number in 0 1 2; do
+    cp whole.c f.c && rm -f f.c.orig f.c.log
+    begun=$(milliseconds)
+    "$program" --workers 4 "${tests[number]}" f.c >plain.txt 2>&1 || failed "the plain reduction by ${tests[number]} ended with $?"
+    whole[$number]=$(($(milliseconds) - begun))
+    echo "by ${tests[number]} without a stop: ${whole[$number]} ms, $(tail -n 1 plain.txt)"
+    mv f.c whole.result.$number && mv f.c.log whole.log.$number && rm -f f.c.orig
+done
+
+# same WHEN NUMBER: the file and the log are those of the test of this number without a stop.
+same() { cmp -s f.c "whole.result.$2" && cmp -s f.c.log "whole.log.$2" || failed "after $1 the file or the log is another"; }
+
+# killed NUMBER WORDS..: begins the program, lets it run for a random time, at most a tenth of what a whole reduction takes, and kills it;
+# fails where it ended before.
 killed() {
+    local most=$((whole[$1] / 10 + 1))
+    shift
     "$program" "$@" "${words[@]}" >said.txt 2>&1 &
     local it=$!
-    sleep "$((RANDOM % (whole / 3 + 1))).$(printf '%03d' $((RANDOM % 1000)))"
+    local wait=$((RANDOM * 32768 + RANDOM))
+    wait=$((wait % most))
+    sleep "$((wait / 1000)).$(printf '%03d' $((wait % 1000)))"
     kill -KILL "$it" 2>/dev/null
     wait "$it" 2>/dev/null
     status=$?
@@ -45,9 +60,11 @@ killed() {
 
 kills=0 reductions=0 stood=0
 while [ "$kills" -lt "$most" ]; do
-    cp whole.c f.c && rm -f f.c.orig f.c.log f.c.journal
+    number=$((reductions % 3))
+    words=(--workers $((reductions % 8 + 1)) "${tests[number]}" f.c)
+    cp whole.c f.c && rm -f f.c.orig f.c.log f.c.journal f.c.journal-words
     how=--journal stood=0
-    while killed "$how"; do
+    while killed "$number" "$how"; do
         kills=$((kills + 1))
         [ "$kills" -lt "$most" ] || break
         now=$(standing f.c.journal)
@@ -60,10 +77,10 @@ while [ "$kills" -lt "$most" ]; do
         status=$?
     fi
     [ "$status" = 0 ] || failed "after kill $kills it ended with $status: $(tail -n 1 said.txt)"
-    same "kill $kills"
+    same "kill $kills" "$number"
     reductions=$((reductions + 1))
 done
-echo "$kills kills in $reductions reductions: each came to the same file and log"
+echo "$kills kills in $reductions reductions, by scripts, texts and formulas and 1 to 8 workers: each came to the same file and log"
 
 # ---- a full disk: the file, its copy, its log and its journal stand on it, the trials beside it
 mkdir full
@@ -89,5 +106,5 @@ while [ "$status" = 12 ]; do
     status=$?
 done
 [ "$status" = 0 ] || failed "on the full disk it ended with $status: $(tail -n 1 said.txt)"
-cmp -s full/f.c whole.result && cmp -s full/f.c.log whole.log || failed 'after a full disk the file or the log is another'
+cmp -s full/f.c whole.result.0 && cmp -s full/f.c.log whole.log.0 || failed 'after a full disk the file or the log is another'
 echo "a full disk: $fulls times 12, and then the same file and log"

@@ -3,7 +3,7 @@
 # begins with the first that is.
 
 # The first file is run A, the second one B.
-FNR == 1 { run = run == "" ? "A" : "B"; name[run] = FILENAME; count[run] = 0; turn = 0; size = run == "A" ? sizeA : sizeB; first[run] = size }
+FNR == 1 { run = run == "" ? "A" : "B"; name[run] = run == "A" && nameA != "" ? nameA : FILENAME; count[run] = 0; turn = 0; size = run == "A" ? sizeA : sizeB; first[run] = size }
 
 $1 == "end" && NF == 4 { why[run] = $2; last[run] = $3; turns[run] = $4; rest[run] = $4 - turn; next }
 
@@ -31,8 +31,8 @@ function sorted(    k, j, row) {
 function cells(run, row) { return sprintf("%8d %8d %9s", accepted[run, row], spent[run, row], (run, row) in removed ? removed[run, row] : "-") }
 
 function summary(run) {
-    printf "%s: size %s to %d%s, %d accepted, %d turns, the last %d in vain, ended %s\n", name[run], first[run] == "" ? "unknown" : first[run], last[run],
-        first[run] ? sprintf(" (%d %%)", 100 * last[run] / first[run]) : "", count[run], turns[run], rest[run], why[run]
+    printf "%s: size %s to %d%s, %d accepted, %d turns, the last %d in vain, %s\n", name[run], first[run] == "" ? "unknown" : first[run], last[run],
+        first[run] ? sprintf(" (%d %%)", 100 * last[run] / first[run]) : "", count[run], turns[run], rest[run], why[run] == "so-far" ? "so far" : "ended " why[run]
 }
 
 function table(    k, row) {

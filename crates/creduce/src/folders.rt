@@ -1,0 +1,66 @@
+// The trial folders of a run whose test is a program.
+use crate::one_run::Subject;
+use cr_start::{folders_in, holder_in, holder_text};
+use creduce_system::{Lock, Taking, is_others};
+use std::alloc::AllocError;
+use std::process;
+
+/// Why a run doesn't get its trial folders, which was said.
+#[derive(Clone, Copy)]
+pub struct Denied;
+
+/// Takes the lock of the trial folders, if a program is the test, and makes sure that they are creduce's own.
+pub fn own_folders(
+    rt: &HostRuntime,
+    run: &Subject<'_>,
+) -> Result<Result<Option<Lock>, Denied>, AllocError> {
+    if !run.is_program {
+        return Ok(Ok(None));
+    }
+    match Lock::take(rt, rt.alloc()) {
+        Ok(Taking::Taken(lock, text)) => own(rt, run, lock, text.as_str()),
+        Ok(Taking::Busy(text)) => {
+            let holder = holder_in(text.as_str());
+            let _ = eprintln!(rt;
+                "creduce: another run uses the folders creduce-trial-K here ({holder}): wait for its end, or call creduce in another folder"
+            );
+            Ok(Err(Denied))
+        }
+        Ok(Taking::NoFile) => {
+            let _ = eprintln!(rt;
+                "creduce: creduce-trial.lock isn't creduce's own, and is to be a plain file: move it away"
+            );
+            Ok(Err(Denied))
+        }
+        Ok(Taking::Missing) | Err(_) => {
+            let _ = eprintln!(rt;
+                "creduce: this folder takes no lock: another run in it would use the same folders creduce-trial-K"
+            );
+            Ok(Ok(None))
+        }
+    }
+}
+
+fn own(
+    rt: &HostRuntime,
+    run: &Subject<'_>,
+    lock: Lock,
+    text: &str,
+) -> Result<Result<Option<Lock>, Denied>, AllocError> {
+    let own = folders_in(text);
+    for number in own..run.workers {
+        if is_others(rt, rt.alloc(), number)? {
+            let _ = eprintln!(rt;
+                "creduce: creduce-trial-{number} isn't creduce's own, and is emptied before each test: move it away"
+            );
+            return Ok(Err(Denied));
+        }
+    }
+    let mut lock = lock;
+    let process = process::id(rt.process());
+    let name = run.name.unwrap_or("a generated program");
+    let text = holder_text(rt.alloc(), process, name, own.max(run.workers))?;
+    // Without it the next run asks whose the folders are.
+    let _ = lock.write(text.as_str());
+    Ok(Ok(Some(lock)))
+}
