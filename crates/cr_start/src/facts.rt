@@ -72,7 +72,7 @@ pub enum Begun {
 pub struct Facts {
     /// The file.
     pub file: Site,
-    /// Whether a new file can be made beside it.
+    /// Whether a new file can be made beside it, or none is wanted, since the file isn't there.
     pub takes_new: bool,
     pub copy: Site,
     pub log: Site,

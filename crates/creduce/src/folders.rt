@@ -18,7 +18,11 @@ pub fn own_folders(
         return Ok(Ok(None));
     }
     match Lock::take(rt, rt.alloc()) {
-        Ok(Taking::Taken(lock, text)) => own(rt, run, lock, text.as_str()),
+        Ok(Taking::Taken(lock, text)) => own(rt, run, Some(lock), text.as_str()),
+        Ok(Taking::Untold(lock, text)) => {
+            say_untold(rt);
+            own(rt, run, Some(lock), text.as_str())
+        }
         Ok(Taking::Busy(text)) => {
             let holder = holder_in(text.as_str());
             let _ = eprintln!(rt;
@@ -33,18 +37,23 @@ pub fn own_folders(
             Ok(Err(Denied))
         }
         Ok(Taking::Missing) | Err(_) => {
-            let _ = eprintln!(rt;
-                "creduce: this folder takes no lock: another run in it would use the same folders creduce-trial-K"
-            );
-            Ok(Ok(None))
+            say_untold(rt);
+            own(rt, run, None, "")
         }
     }
 }
 
+fn say_untold(rt: &HostRuntime) {
+    let _ = eprintln!(rt;
+        "creduce: this folder takes no lock: another run in it would use the same folders creduce-trial-K"
+    );
+}
+
+// The lock, where there is one, if the folders are creduce's own by the text of its file, or hold nothing.
 fn own(
     rt: &HostRuntime,
     run: &Subject<'_>,
-    lock: Lock,
+    lock: Option<Lock>,
     text: &str,
 ) -> Result<Result<Option<Lock>, Denied>, AllocError> {
     let own = folders_in(text);
@@ -56,7 +65,9 @@ fn own(
             return Ok(Err(Denied));
         }
     }
-    let mut lock = lock;
+    let Some(mut lock) = lock else {
+        return Ok(Ok(None));
+    };
     let process = process::id(rt.process());
     let name = run.name.unwrap_or("a generated program");
     let text = holder_text(rt.alloc(), process, name, own.max(run.workers))?;

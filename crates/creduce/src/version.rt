@@ -14,7 +14,7 @@ const OTHER: u8 = 1;
 /// Prints the record that stands beside the program, and answers whether this program is the recorded one.
 pub fn version(rt: &HostRuntime) -> Result<u8, AllocError> {
     let Some(record) = record(rt)? else {
-        let _ = println!(rt; "creduce 1.0");
+        let _ = println!(rt; "creduce 0.9.0");
         let _ = eprintln!(rt; "creduce: no creduce.record stands beside this program");
         return Ok(OTHER);
     };

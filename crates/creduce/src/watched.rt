@@ -46,11 +46,13 @@ fn how_on(rt: &HostRuntime, run: &Subject<'_>, words: &[String]) -> Result<Strin
         return Ok(how);
     }
     how.push_str("creduce: this goes on with it: creduce")?;
+    let mut is_option = true;
     for word in words {
         let word = match word.as_str() {
-            "--journal" => "--resume",
+            "--journal" if is_option => "--resume",
             word => word,
         };
+        is_option = is_option && word != "--";
         write!(how, " {}", quoted(alloc, word)?)?;
     }
     Ok(how)

@@ -154,9 +154,12 @@ pub fn facts<R: SystemFiles<File = File>>(
     } else {
         (None, None)
     };
+    let file = site(rt, name);
+    // That a file isn't there is the run's to say, unless its copy is what the run goes on from.
+    let is_missed = file.kind.is_none() && !resumes;
     Ok(Facts {
-        file: site(rt, name),
-        takes_new: takes_new(rt, alloc, name, longest)?,
+        file,
+        takes_new: is_missed || takes_new(rt, alloc, name, longest)?,
         copy: beside(rt, alloc, name, Ending::Copy)?,
         log: beside(rt, alloc, name, Ending::Log)?,
         best: beside(rt, alloc, name, Ending::Best)?,

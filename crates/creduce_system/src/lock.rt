@@ -34,7 +34,9 @@ pub enum Taking {
     Taken(Lock, String),
     /// Another run has it, and its file holds this text.
     Busy(String),
-    /// The file system has no locks, or the file can't be made here.
+    /// Whether another run has it can't be told, since the file system has no locks. Its file held this text before.
+    Untold(Lock, String),
+    /// Its file can't be made here.
     Missing,
     /// What stands there is no plain file.
     NoFile,
@@ -55,7 +57,9 @@ impl Lock {
             match file.try_lock() {
                 Ok(()) => return Ok(Taking::Taken(Lock { file }, text(rt, alloc)?)),
                 Err(TryLockError::WouldBlock) => thread::sleep(rt, Duration::from_millis(PAUSE)),
-                Err(TryLockError::Error(_)) => return Ok(Taking::Missing),
+                Err(TryLockError::Error(_)) => {
+                    return Ok(Taking::Untold(Lock { file }, text(rt, alloc)?));
+                }
             }
         }
         Ok(Taking::Busy(text(rt, alloc)?))

@@ -255,7 +255,7 @@ impl<'a> Progress<'a> {
             }
             if now / MINUTE > minute {
                 minute = now / MINUTE;
-                self.say_long_trials(rt, now);
+                self.say_minute(rt, now);
             }
         }
     }
@@ -275,12 +275,16 @@ impl<'a> Progress<'a> {
         }
     }
 
-    fn say_long_trials<R: Clock + Eprint>(&self, rt: &R, now: u64) {
+    fn say_minute<R: Clock + Eprint>(&self, rt: &R, now: u64) {
         let Some(trials) = self.trials(rt) else {
             return;
         };
         if trials.is_over || self.shown == Shown::Nothing {
             return;
+        }
+        if trials.count == 0 && trials.begun.iter().all(|begun| begun.is_none()) {
+            // No judge is asked where a text or a formula is the test.
+            let _ = eprintln!(rt; "creduce: {} min so far", now / MINUTE);
         }
         for (judge, begun) in trials.begun.iter().enumerate() {
             let waited = now.saturating_sub(begun.unwrap_or(now));
