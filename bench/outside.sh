@@ -25,7 +25,7 @@ fresh() {
 # call WORD..: sets status, out and err.
 call() {
     status=0
-    timeout 60 "$program" "$@" >out.txt 2>err.txt </dev/null || status=$?
+    timeout 300 "$program" "$@" >out.txt 2>err.txt </dev/null || status=$?
     out=$(<out.txt) err=$(<err.txt)
 }
 
@@ -130,7 +130,7 @@ is 'help stands behind other words too' '[ $status = 0 ] && [[ $out == *"USAGE"*
 call -h
 is 'help by -h' '[ $status = 0 ] && [[ $out == *"USAGE"* ]]'
 call --version
-is '--version has a program and its checksum' '[[ $out == *"creduce 1.0"*"program "* ]]'
+is '--version says which this is' '[[ $out == *"creduce 0.9.0"* ]]'
 call --explain K40
 is 'a number is explained' '[ $status = 0 ] && [[ $out == *"type 40 is K40"* ]]'
 
@@ -172,6 +172,8 @@ fresh && call --journal --limit 1 has:main f.c && cp f.c reached.c && last=$stat
 is 'a run that came to its limit is gone on from: the same end' '[ $last = 7 ] && [ $status = 7 ] && cmp -s f.c reached.c'
 call --resume has:main f.c
 is 'with another limit: refused, or gone on with, and FILE stays whole' '[ $status = 13 ] && cmp -s f.c reached.c || [ $status = 0 ]'
+printf '#!/bin/sh\nexec grep -q main f.c\n' >t.sh && rm -f f.c.* && printf '%s\n' "$text" >f.c && call --journal ./t.sh f.c && printf '#!/bin/sh\ngrep -q main f.c\n' >t.sh && call --resume ./t.sh f.c
+is 'where TEST has other bytes that is said' '[ $status = 0 ] && says "TEST has other bytes"'
 fresh && rm f.c && call --journal has:main f.c
 is 'no words stay where no journal was begun' '[ $status = 3 ] && [ ! -e f.c.journal-words ]'
 
@@ -199,6 +201,10 @@ call --workers 1 ./t.sh f.c
 is "a link in the folder's place goes" '[ $status = 0 ] && [ "$(<kept/kept)" = kept ] && [ "$(ls kept)" = kept ]'
 fresh && mkdir creduce-trial-1 && echo mine >creduce-trial-1/mine && call --workers 4 ./t.sh f.c
 is 'a folder of that name that is mine' '[ $status = 1 ] && says "creduce-trial-1 isn'"'"'t creduce'"'"'s own" && [ "$(<creduce-trial-1/mine)" = mine ] && unchanged'
+fresh && call --workers 1 ./t.sh f.c && printf '%s\n' "$text" >creduce-trial-0/f.c && call --workers 1 ./t.sh creduce-trial-0/f.c
+is 'a FILE in a trial folder' '[ $status = 1 ] && says "creduce-trial-0/f.c is in creduce-trial-0, which is emptied" && [ "$(<creduce-trial-0/f.c)" = "$text" ]'
+cp t.sh creduce-trial-0/ && call --workers 1 ./creduce-trial-0/t.sh f.c
+is 'a TEST in a trial folder' '[ $status = 1 ] && says "creduce-trial-0/t.sh is in creduce-trial-0" && [ -e creduce-trial-0/t.sh ]'
 fresh && mkdir kept && ln -s kept creduce-trial-0 && call --workers 1 ./t.sh f.c
 is 'a link of that name' '[ $status = 1 ] && says "creduce-trial-0 isn'"'"'t creduce'"'"'s own" && unchanged'
 fresh && mkdir -p other/creduce-trial-0 && cp f.c other/creduce-trial-0/
@@ -239,10 +245,10 @@ is 'after a kill the next run has the folders' '[ $status = 0 ]'
 # ---- closed streams
 fresh && status=0 && "$program" --journal has:main f.c >&- 2>err.txt </dev/null || status=$?
 out='' err=$(<err.txt)
-is 'standard output is closed' '[ $status = 10 ] && [ "$(od -An -N3 -tx1 f.c.journal)" = " 01 01 00" ]'
+is 'standard output is closed' '[ $status = 10 ] && [ "$(od -An -N3 -tx1 f.c.journal)" = " 01 ff 03" ]'
 fresh && status=0 && "$program" --journal has:main f.c <&- >out.txt 2>&- || status=$?
 out=$(<out.txt) err=''
-is 'standard input and error are closed' '[ $status = 0 ] && [ "$(od -An -N3 -tx1 f.c.journal)" = " 01 01 00" ] && [ "$(<f.c.orig)" = "$text" ]'
+is 'standard input and error are closed' '[ $status = 0 ] && [ "$(od -An -N3 -tx1 f.c.journal)" = " 01 ff 03" ] && [ "$(<f.c.orig)" = "$text" ]'
 
 # ---- names
 fresh && mv f.c -- -f.c && call has:main -- -f.c
@@ -303,7 +309,7 @@ is 'SIGKILL of the program: its tests end, and the watchman says so' '! pgrep -x
 printf '#!/bin/sh\ngrep -q main f.c\n' >t.sh
 call --resume --workers 2 ./t.sh f.c
 is 'no process of that run is left' '! grep -lszxF "PWD=$PWD/creduce-trial-0" /proc/[0-9]*/environ >/dev/null && [ -z "$(ls -d /proc/[0-9]*/cwd -l 2>/dev/null | grep -F -- "-> $PWD/creduce-trial")" ]'
-is '--resume at once goes on, and TEST has other bytes' '[ $status = 0 ] && says "TEST has other bytes" && [ -z "$(find . -name late)" ]'
+is '--resume at once goes on' '[ $status = 0 ] && [ -z "$(find . -name late)" ]'
 fresh && printf '#!/bin/sh\ngrep -q main f.c || exit 1; timeout 60 sleep 46; :\n' >t.sh
 "$program" --workers 2 ./t.sh f.c >out.txt 2>err.txt </dev/null &
 first=$!

@@ -1,7 +1,7 @@
 // The trial folders of a run whose test is a program.
 use crate::one_run::Subject;
-use cr_start::{folders_in, holder_in, holder_text};
-use creduce_system::{Lock, Taking, is_others};
+use cr_start::{Plain, folders_in, holder_in, holder_text};
+use creduce_system::{Lock, Taking, is_others, is_within};
 use std::alloc::AllocError;
 use std::process;
 
@@ -56,6 +56,17 @@ fn own(
     lock: Option<Lock>,
     text: &str,
 ) -> Result<Result<Option<Lock>, Denied>, AllocError> {
+    for path in [run.name.unwrap_or(""), run.test] {
+        for number in 0..run.workers {
+            if is_within(rt, rt.alloc(), number, path)? {
+                let path = Plain(path);
+                let _ = eprintln!(rt;
+                    "creduce: {path} is in creduce-trial-{number}, which is emptied before each test: move it elsewhere"
+                );
+                return Ok(Err(Denied));
+            }
+        }
+    }
     let own = folders_in(text);
     for number in own..run.workers {
         if is_others(rt, rt.alloc(), number)? {

@@ -1,5 +1,6 @@
 // The lock of the trial folders in the current folder.
 use crate::older::stands;
+use crate::paths::folder_of;
 use crate::std_files::read_most;
 use std::alloc::{AllocError, Global};
 use std::fs::{self, File, OpenOptions, TryLockError};
@@ -103,5 +104,34 @@ pub fn is_others<R: Clone + Drop + SystemFiles<File = File>>(
     match fs::read_dir(&(rt.clone()?, alloc), &*folder) {
         Ok(mut entries) => Ok(entries.next().is_some()),
         Err(_) => Ok(true),
+    }
+}
+
+/// Whether what a path names, or the folder in which the name stands, is within this trial folder, so that it would go with what a test leaves.
+pub fn is_within<R: SystemFiles<File = File>>(
+    rt: &R,
+    alloc: Global,
+    number: u32,
+    path: &str,
+) -> Result<bool, AllocError> {
+    let folder = format!(in alloc; "creduce-trial-{number}")?;
+    let Ok(folder) = rt.canonicalize(alloc, folder.as_str()) else {
+        return Ok(false);
+    };
+    for place in [path, folder_of(path)] {
+        if let Ok(place) = rt.canonicalize(alloc, place) {
+            if is_at_or_below(place.as_str(), folder.as_str()) {
+                return Ok(true);
+            }
+        }
+    }
+    Ok(false)
+}
+
+// Whether a whole path is this one, or goes on below it.
+fn is_at_or_below(path: &str, folder: &str) -> bool {
+    match path.strip_prefix(folder) {
+        Some(rest) => rest.is_empty() || rest.starts_with('/'),
+        None => false,
     }
 }
