@@ -89,6 +89,10 @@ if [ "$(id -u)" = 0 ] && command -v setpriv >/dev/null; then
     is 'a folder that takes no new file' '[ $status = 1 ] && says "no file can be made in closed" && [ ! -e closed/f.c.orig ]'
     touch closed/f.c.orig closed/f.c.log && chmod 666 closed/f.c.* && printf '%s\n' "$text" >closed/f.c.orig && as_user has:main closed/f.c
     is 'the same, with a copy and a log that can be written' '[ $status = 0 ] && [ "$(<closed/f.c)" != "$text" ] && [ "$(<closed/f.c.orig)" = "$text" ]'
+    fresh && mkdir closed && mv f.c t.sh closed/ && chmod 666 closed/f.c && cp closed/f.c closed/f.c.orig && touch closed/f.c.log && chmod 666 closed/f.c.* && cd closed && status=0
+    setpriv --reuid 65534 --regid 65534 --clear-groups timeout 60 "$program" ./t.sh f.c >../out.txt 2>../err.txt </dev/null || status=$?
+    out=$(<../out.txt) err=$(<../err.txt)
+    is 'a folder in which no trial folder can be made' '[ $status = 1 ] && says "no folder can be made here" && kept'
 else
     echo "not tried: what a user may not write, since this isn't root"
 fi

@@ -1,7 +1,7 @@
 // The trial folders of a run whose test is a program.
 use crate::one_run::Subject;
 use cr_start::{Plain, folders_in, holder_in, holder_text};
-use creduce_system::{Lock, Taking, is_others, is_within};
+use creduce_system::{Lock, Taking, is_others, is_within, takes_folders};
 use std::alloc::AllocError;
 use std::process;
 
@@ -56,25 +56,9 @@ fn own(
     lock: Option<Lock>,
     text: &str,
 ) -> Result<Result<Option<Lock>, Denied>, AllocError> {
-    for path in [run.name.unwrap_or(""), run.test] {
-        for number in 0..run.workers {
-            if is_within(rt, rt.alloc(), number, path)? {
-                let path = Plain(path);
-                let _ = eprintln!(rt;
-                    "creduce: {path} is in creduce-trial-{number}, which is emptied before each test: move it elsewhere"
-                );
-                return Ok(Err(Denied));
-            }
-        }
-    }
     let own = folders_in(text);
-    for number in own..run.workers {
-        if is_others(rt, rt.alloc(), number)? {
-            let _ = eprintln!(rt;
-                "creduce: creduce-trial-{number} isn't creduce's own, and is emptied before each test: move it away"
-            );
-            return Ok(Err(Denied));
-        }
+    if lacks_room(rt) || would_lose(rt, run)? || takes_others(rt, run, own)? {
+        return Ok(Err(Denied));
     }
     let Some(mut lock) = lock else {
         return Ok(Ok(None));
@@ -85,4 +69,44 @@ fn own(
     // Without it the next run asks whose the folders are.
     let _ = lock.write(text.as_str());
     Ok(Ok(Some(lock)))
+}
+
+// Whether no folder can be made here, which is said.
+fn lacks_room(rt: &HostRuntime) -> bool {
+    let lacks = !takes_folders(rt);
+    if lacks {
+        let _ = eprintln!(rt;
+            "creduce: no folder can be made here, where the tests are to run: call creduce in another folder"
+        );
+    }
+    lacks
+}
+
+// Whether the file or the test stands in one of the folders, which is said.
+fn would_lose(rt: &HostRuntime, run: &Subject<'_>) -> Result<bool, AllocError> {
+    for number in 0..run.workers {
+        for path in [run.name.unwrap_or(""), run.test] {
+            if is_within(rt, rt.alloc(), number, path)? {
+                let path = Plain(path);
+                let _ = eprintln!(rt;
+                    "creduce: {path} is in creduce-trial-{number}, which is emptied before each test: move it elsewhere"
+                );
+                return Ok(true);
+            }
+        }
+    }
+    Ok(false)
+}
+
+// Whether one of the folders, of which so many are creduce's own, is another's, which is said.
+fn takes_others(rt: &HostRuntime, run: &Subject<'_>, own: u32) -> Result<bool, AllocError> {
+    for number in own..run.workers {
+        if is_others(rt, rt.alloc(), number)? {
+            let _ = eprintln!(rt;
+                "creduce: creduce-trial-{number} isn't creduce's own, and is emptied before each test: move it away"
+            );
+            return Ok(true);
+        }
+    }
+    Ok(false)
 }

@@ -28,7 +28,7 @@ mod watchman;
 mod width;
 
 pub use found::{facts, has_length};
-pub use lock::{Lock, Taking, is_others, is_within};
+pub use lock::{Lock, Taking, is_others, is_within, takes_folders};
 pub use process_judge::ProcessJudge;
 pub use progress::{Progress, Shown};
 pub use standard::hold_standard;

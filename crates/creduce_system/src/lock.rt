@@ -4,7 +4,7 @@ use crate::paths::folder_of;
 use crate::std_files::read_most;
 use std::alloc::{AllocError, Global};
 use std::fs::{self, File, OpenOptions, TryLockError};
-use std::io::{self, Seek, SeekFrom, Write};
+use std::io::{self, ErrorKind, Seek, SeekFrom, Write};
 use std::rt::{Clock, Files as SystemFiles};
 use std::thread;
 use std::time::Duration;
@@ -104,6 +104,15 @@ pub fn is_others<R: Clone + Drop + SystemFiles<File = File>>(
     match fs::read_dir(&(rt.clone()?, alloc), &*folder) {
         Ok(mut entries) => Ok(entries.next().is_some()),
         Err(_) => Ok(true),
+    }
+}
+
+/// Whether a trial folder can be made here, or the first is there.
+pub fn takes_folders<R: SystemFiles>(rt: &R) -> bool {
+    const FIRST: &str = "creduce-trial-0";
+    match fs::create_dir(rt, FIRST) {
+        Ok(()) => fs::remove_dir(rt, FIRST).is_ok(),
+        Err(e) => e.kind() == ErrorKind::AlreadyExists,
     }
 }
 
