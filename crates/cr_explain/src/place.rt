@@ -25,6 +25,22 @@ impl Place {
         text_at(file, self.start, self.end)
     }
 
+    /// The bytes in front of it.
+    pub fn before<'a>(&self, file: &'a [u8]) -> &'a [u8] {
+        match file.get(..self.start) {
+            Some(bytes) => bytes,
+            None => &[],
+        }
+    }
+
+    /// The bytes behind it.
+    pub fn behind<'a>(&self, file: &'a [u8]) -> &'a [u8] {
+        match file.get(self.end..) {
+            Some(bytes) => bytes,
+            None => &[],
+        }
+    }
+
     /// The bytes from there on.
     pub fn onward<'a>(&self, file: &'a [u8]) -> &'a [u8] {
         match file.get(self.start..) {

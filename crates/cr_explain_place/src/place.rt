@@ -50,7 +50,7 @@ fn misfit(file: &[u8], tokens: &[Token], number: usize) -> Option<Place> {
 }
 
 /// Where the first fault of a file's tokens, its parse, its names or its types stands. Of K40, which stands at the last token, it is the first
-/// use of a function that the file doesn't define, if there is one.
+/// use of a function or an object that the file doesn't define, if there is one.
 pub fn first_place(alloc: Global, file: &[u8]) -> Result<Option<Place>, AllocError> {
     match read(alloc, file) {
         Ok(tokens) => place_in(alloc, file, &tokens),
@@ -127,7 +127,7 @@ fn cause(file: &[u8], tokens: &[Token], number: usize) -> Option<(usize, usize)>
     found
 }
 
-// The first use of a function that the file doesn't define, by the look of its declarations.
+// The first use of a function or an object that the file doesn't define, by the look of its declarations.
 fn undefined_use(file: &[u8], tokens: &[Token], names: &Names) -> Option<Place> {
     for entity in names.entities.as_slice() {
         let declared = entity.declared.as_slice();
@@ -146,19 +146,63 @@ fn undefined_use(file: &[u8], tokens: &[Token], names: &Names) -> Option<Place> 
     None
 }
 
-// Whether these tokens declare a function, by a list behind the name, and none of them defines one, by a body behind the list.
+// Whether these tokens declare a function, by a list behind the name, or an object elsewhere, by `extern` in front of it, and none of them
+// defines one.
 fn are_undefined(file: &[u8], tokens: &[Token], declared: &[u32]) -> bool {
-    let mut is_function = false;
-    for name in declared {
-        let behind = (*name as usize).saturating_add(1);
-        if spelled(file, tokens, behind) == Some("(") {
-            is_function = true;
-            if spelled(file, tokens, behind_list(file, tokens, behind)) == Some("{") {
-                return false;
-            }
+    !declared.is_empty()
+        && declared
+            .iter()
+            .all(|name| is_elsewhere(file, tokens, *name as usize))
+}
+
+// Whether this declares something without a definition: a list behind the name and no body behind that, or `extern` and no value.
+fn is_elsewhere(file: &[u8], tokens: &[Token], name: usize) -> bool {
+    let behind = name.saturating_add(1);
+    if spelled(file, tokens, behind) == Some("(") {
+        spelled(file, tokens, behind_list(file, tokens, behind)) != Some("{")
+            && front(file, tokens, name) != Front::Parameter
+    } else {
+        front(file, tokens, name) == Front::Extern && !has_value(file, tokens, behind)
+    }
+}
+
+// What stands in front of a name in its declaration.
+#[derive(Clone, Copy, PartialEq, Eq)]
+enum Front {
+    /// An opening bracket: it is a parameter, or stands in brackets of its own.
+    Parameter,
+    Extern,
+    Else,
+}
+
+fn front(file: &[u8], tokens: &[Token], name: usize) -> Front {
+    let Some(before) = tokens.get(..name) else {
+        return Front::Else;
+    };
+    let mut depth: usize = 0;
+    for token in before.iter().rev().take(LOOKED_AT) {
+        match text_at(file, token.start as usize, token.end as usize) {
+            Some("extern") => return Front::Extern,
+            Some(";" | "{" | "}") => return Front::Else,
+            Some(")") => depth = depth.saturating_add(1),
+            Some("(") if depth == 0 => return Front::Parameter,
+            Some("(") => depth = depth.saturating_sub(1),
+            _ => {}
         }
     }
-    is_function
+    Front::Else
+}
+
+// Whether a value stands behind a declared name.
+fn has_value(file: &[u8], tokens: &[Token], behind: usize) -> bool {
+    for number in behind..tokens.len() {
+        match spelled(file, tokens, number) {
+            Some("=") => return true,
+            Some("," | ";") => return false,
+            _ => {}
+        }
+    }
+    false
 }
 
 fn spelled<'a>(file: &'a [u8], tokens: &[Token], number: usize) -> Option<&'a str> {
