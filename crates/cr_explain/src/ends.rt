@@ -55,6 +55,9 @@ pub fn explanation(
         4 | 5 => refused_text(alloc, line, seen),
         6 => no_text(alloc, test),
         8 => failed_text(alloc, test, line, seen.test),
+        9 => format!(in alloc;
+            "A file of that name can't be read or written by you, or its disk is full.\n"
+        ),
         12 => format!(in alloc;
             "No record of it is lost, and FILE is as it was: --resume goes on with the same words. Another run may have it open, or its disk may be full.\n"
         ),
@@ -216,8 +219,24 @@ fn failed_text(
     let mut text = format!(in alloc;
         "It ended with status 126 or 127, by which a shell says that a program isn't there, or the variant couldn't be written.\n"
     )?;
+    if let TestSeen::Startable(first) = seen
+        && let Some(interpreter) = interpreter_in(first)
+    {
+        write!(
+            text,
+            "Its first line wants {interpreter}: that has to be there too.\n"
+        )?;
+    }
     push_by_hand(&mut text, test)?;
     Ok(text)
+}
+
+// The program that a test's first line names.
+fn interpreter_in(first: &[u8]) -> Option<&str> {
+    let Ok(line) = str::from_utf8(first) else {
+        return None;
+    };
+    line.strip_prefix("#!")?.trim().split(' ').next()
 }
 
 fn journal_text(

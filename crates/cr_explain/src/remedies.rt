@@ -156,7 +156,10 @@ fn name_remedy(
     place: Place,
     spelled: &str,
 ) -> Result<Option<String>, AllocError> {
-    if !matches!(last_of(place.before(file)), None | Some(b'(' | b',' | b';' | b'}')) {
+    if !matches!(
+        last_of(place.before(file)),
+        None | Some(b'(' | b',' | b';' | b'}')
+    ) {
         return Ok(None);
     }
     let text = if is_called(place.behind(file)) {

@@ -43,7 +43,7 @@ LOG and FILE are two words, and here are 1|--replay|a
 --workers 8 says that here|-j8|a|b
 did you mean --limit?|--limits|3|a|b
 did you mean --resume?|--resum|a|b
-TEST and FILE are two words, and here is only "a"|--limit|--journal|5|a
+TEST and FILE are two words, and here is only \"a\"|--limit|--journal|5|a
 --explain takes token 1 to 5|--explain|K44
 takes a number from 0 to 9223372036854775807, and not \"-1\"|--limit|-1|a|b
 ";
@@ -104,6 +104,7 @@ const ENDS: &str = "\
 6|hasn't the tokens of \"x\"|creduce: the test says no to f.c|has:x|f.c
 8|There is no ./t.sh|creduce: the test failed on f.c|./t.sh|f.c
 8|The test failed on a variant|f.c size 9 to 8 accepted 1 turns 4 fault|./t.sh|f.c
+9|can't be read or written by you|creduce: file fault: f.c|./t.sh|f.c
 12|--resume goes on|creduce: journal fault: f.c.journal|has:x|f.c
 13|Record 3 of it|creduce: journal refused: f.c.journal 3|./t.sh|f.c
 14|At line 7 of the log|creduce: replay: line 7|f.c.log|f.c
