@@ -7,7 +7,7 @@ pub struct Place {
     pub end: usize,
     /// Of parse 4, which of its nine forms it is; else 0.
     pub form: u8,
-    /// Of parse 1, the bytes of a word in front of it that C11 hasn't, by which the parser may have come to it.
+    /// Of parse 1, the bytes of a word in front of it that C11 hasn't, or that stands where a type is wanted and is none.
     pub cause: Option<(usize, usize)>,
     /// Of parse 1, whether an identifier stands there.
     pub is_name: bool,

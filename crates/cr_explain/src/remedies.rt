@@ -79,14 +79,20 @@ fn why_no_integer(spelled: &str) -> &'static str {
     let is_hexadecimal = spelled.starts_with("0x") || spelled.starts_with("0X");
     if spelled.starts_with("0b") || spelled.starts_with("0B") {
         "C11 has no binary ones, so write it with 0x"
-    } else if spelled.contains('.')
-        || spelled.contains('p')
-        || (!is_hexadecimal && spelled.contains('e'))
-    {
+    } else if spelled.contains('.') || has_exponent(spelled, is_hexadecimal) {
         "floating point is left out"
     } else {
         "its digits or its suffix aren't those of one, or no type holds it"
     }
+}
+
+fn has_exponent(spelled: &str, is_hexadecimal: bool) -> bool {
+    let (small, large) = if is_hexadecimal {
+        ('p', 'P')
+    } else {
+        ('e', 'E')
+    };
+    spelled.contains(small) || spelled.contains(large)
 }
 
 // A number as it is spelled.
@@ -137,10 +143,12 @@ fn misfit(
     place: Place,
     spelled: &str,
 ) -> Result<Option<String>, AllocError> {
-    if let Some(word) = place.cause_text(file)
-        && let Some(text) = extension_remedy(word)
-    {
-        return Ok(Some(format!(in alloc; "`{word}`: {text}")?));
+    if let Some(word) = place.cause_text(file) {
+        let text = match extension_remedy(word) {
+            Some(text) => format!(in alloc; "`{word}`: {text}")?,
+            None => no_type(alloc, word)?,
+        };
+        return Ok(Some(text));
     }
     match extension_remedy(spelled).or(token_remedy(spelled, last_of(place.before(file)))) {
         Some(text) => Ok(Some(format!(in alloc; "`{spelled}`: {text}")?)),
@@ -167,11 +175,15 @@ fn name_remedy(
             "`{spelled}` has no type in front, which C11 wants of each declaration: write int, if it is one"
         )?
     } else {
-        format!(in alloc;
-            "`{spelled}` is no type that is declared before: a header may have it (creduce-prepare), or, where parameters are declared behind their list, put their types into the list"
-        )?
+        no_type(alloc, spelled)?
     };
     Ok(Some(text))
+}
+
+fn no_type(alloc: Global, name: &str) -> Result<String, AllocError> {
+    format!(in alloc;
+        "`{name}` is no type that is declared before: a header may have it (creduce-prepare), or, where parameters are declared behind their list, put their types into the list"
+    )
 }
 
 // The last byte that is no white space.

@@ -39,8 +39,8 @@ fn place_of(tokens: &[Token], number: usize, form: u8) -> Option<Place> {
 
 // A token that fits nowhere.
 fn misfit(file: &[u8], tokens: &[Token], number: usize) -> Option<Place> {
-    let cause = cause(file, tokens, number);
-    let is_name = matches!(tokens.get(number)?.kind, TokenKind::Identifier);
+    let cause = cause(file, tokens, number).or(no_type(file, tokens, number));
+    let is_name = is_identifier(tokens.get(number)?);
     let place = place_of(tokens, number, 0)?;
     Some(Place {
         cause,
@@ -125,6 +125,27 @@ fn cause(file: &[u8], tokens: &[Token], number: usize) -> Option<(usize, usize)>
         }
     }
     found
+}
+
+// The name in front of a name, where a declaration begins with it.
+fn no_type(file: &[u8], tokens: &[Token], number: usize) -> Option<(usize, usize)> {
+    let word = tokens.get(number.checked_sub(1)?)?;
+    if !is_identifier(tokens.get(number)?) || !is_identifier(word) {
+        return None;
+    }
+    match number.checked_sub(2) {
+        Some(before) if !begins(spelled(file, tokens, before)) => None,
+        _ => Some((word.start as usize, word.end as usize)),
+    }
+}
+
+fn is_identifier(token: &Token) -> bool {
+    matches!(token.kind, TokenKind::Identifier)
+}
+
+// Whether a declaration begins behind this token.
+fn begins(front: Option<&str>) -> bool {
+    matches!(front, Some(";" | "{" | "}" | "(" | ","))
 }
 
 // The first use of a function or an object that the file doesn't define, by the look of its declarations.

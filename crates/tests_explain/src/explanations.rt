@@ -68,6 +68,7 @@ const FILES: &str = "\
 1: not in the subset: parse 1|two of type unsigned long|__int128 x;/
 1: not in the subset: parse 1|creduce-prepare takes it out|int f(void) __attribute__((pure));/
 1: not in the subset: parse 1|`x` is no type that is declared before|int f(x) int x; { return x; }/
+1: not in the subset: parse 1|`u32` is no type that is declared before|int main(void) { u32 n = 1; return n; }/
 1: not in the subset: parse 1|`uint` is no type that is declared before|int f(int x, uint y);/
 1: not in the subset: parse 4|4. a call of anything but a plain name|int f(void); int main(void) { return (f)(); }/
 1: not in the subset: parse 4|1. a keyword without a rule|double x;/
