@@ -181,37 +181,37 @@ fn is_elsewhere(file: &[u8], tokens: &[Token], name: usize) -> bool {
     let behind = name.saturating_add(1);
     if spelled(file, tokens, behind) == Some("(") {
         spelled(file, tokens, behind_list(file, tokens, behind)) != Some("{")
-            && front(file, tokens, name) != Front::Parameter
+            && front_of(file, tokens, name) != Lead::Bracket
     } else {
-        front(file, tokens, name) == Front::Extern && !has_value(file, tokens, behind)
+        front_of(file, tokens, name) == Lead::Extern && !has_value(file, tokens, behind)
     }
 }
 
 // What stands in front of a name in its declaration.
 #[derive(Clone, Copy, PartialEq, Eq)]
-enum Front {
+enum Lead {
     /// An opening bracket: it is a parameter, or stands in brackets of its own.
-    Parameter,
+    Bracket,
     Extern,
     Else,
 }
 
-fn front(file: &[u8], tokens: &[Token], name: usize) -> Front {
+fn front_of(file: &[u8], tokens: &[Token], name: usize) -> Lead {
     let Some(before) = tokens.get(..name) else {
-        return Front::Else;
+        return Lead::Else;
     };
     let mut depth: usize = 0;
     for token in before.iter().rev().take(LOOKED_AT) {
         match text_at(file, token.start as usize, token.end as usize) {
-            Some("extern") => return Front::Extern,
-            Some(";" | "{" | "}") => return Front::Else,
+            Some("extern") => return Lead::Extern,
+            Some(";" | "{" | "}") => return Lead::Else,
             Some(")") => depth = depth.saturating_add(1),
-            Some("(") if depth == 0 => return Front::Parameter,
+            Some("(") if depth == 0 => return Lead::Bracket,
             Some("(") => depth = depth.saturating_sub(1),
             _ => {}
         }
     }
-    Front::Else
+    Lead::Else
 }
 
 // Whether a value stands behind a declared name.

@@ -80,7 +80,7 @@ const FILES: &str = "\
 1: not in the subset: parse 1|`int`: where these are the parameters|int f() int x; { return x; }/
 2: not in the subset: name 1|nosuch isn't declared before line 2, column 25|int x;/int main(void) { return nosuch; }/
 1: not in the subset: name 1|strlen is a function of the library|int main(void) { return strlen(0); }/
-1: not in the subset: name 1|alone are known: define it in the file, as creduce-prepare does|int main(void) { return strlen(0); }/
+1: not in the subset: name 1|define it in the file, as creduce-prepare does|int main(void) { return strlen(0); }/
 1: not in the subset: name 1|define it in the file, or take the call out|int main(void) { malloc(1); return 0; }/
 1: not in the subset: name 1|`INT_MAX`: a header has it|int main(void) { return INT_MAX; }/
 1: not in the subset: name 1|`stderr`: streams are left out|int f(int x) { return x; } int main(void) { return f(stderr); }/
