@@ -3,7 +3,7 @@ use crate::lines::read_refusal;
 use crate::options::{FLAGS, VALUED};
 use crate::place::Place;
 use crate::refusals::refusal_text;
-use crate::words::word_fault;
+use crate::words::{test_fault, word_fault};
 use std::alloc::{AllocError, Global};
 
 /// What was seen of a test that is a path.
@@ -47,14 +47,17 @@ pub fn explanation(
         _ => ("", ""),
     };
     if matches!(status, 3 | 4 | 6 | 8) && are_swapped(test, seen.file) {
-        return format!(in alloc; "TEST comes first, then FILE: creduce {file} {test}\n");
+        return format!(in alloc; "TEST comes first, then FILE: creduce '{file}' '{test}'\n");
     }
     match status {
-        2 => words_text(alloc, words),
+        2 => words_text(alloc, words, test),
         3 => absent_text(alloc, file, line, seen.folder),
         4 | 5 => refused_text(alloc, line, seen),
         6 => no_text(alloc, test),
         8 => failed_text(alloc, test, line, seen.test),
+        9 => format!(in alloc;
+            "A file of that name can't be read or written by you, or its disk is full.\n"
+        ),
         12 => format!(in alloc;
             "No record of it is lost, and FILE is as it was: --resume goes on with the same words. Another run may have it open, or its disk may be full.\n"
         ),
@@ -85,6 +88,9 @@ pub fn places_of<'a>(alloc: Global, words: &'a [String]) -> Result<Vec<&'a str>,
     let mut are_all = false;
     for word in words {
         let word = word.as_str();
+        if !are_all && FLAGS.contains(&word) {
+            continue;
+        }
         if is_value {
             is_value = false;
         } else if are_all || word.len() < 2 || !word.starts_with("-") {
@@ -98,12 +104,19 @@ pub fn places_of<'a>(alloc: Global, words: &'a [String]) -> Result<Vec<&'a str>,
     Ok(places)
 }
 
-fn words_text(alloc: Global, words: &[String]) -> Result<String, AllocError> {
-    match word_fault(alloc, words)? {
+fn words_text(alloc: Global, words: &[String], test: &str) -> Result<String, AllocError> {
+    match any_fault(alloc, words, test)? {
         Some(fault) => format!(in alloc; "{fault}\ncreduce --help says which words there are.\n"),
         None => format!(in alloc;
             "The words are in no form.\ncreduce --help says which words there are.\n"
         ),
+    }
+}
+
+fn any_fault(alloc: Global, words: &[String], test: &str) -> Result<Option<String>, AllocError> {
+    match word_fault(alloc, words)? {
+        Some(fault) => Ok(Some(fault)),
+        None => test_fault(alloc, test),
     }
 }
 
@@ -206,8 +219,24 @@ fn failed_text(
     let mut text = format!(in alloc;
         "It ended with status 126 or 127, by which a shell says that a program isn't there, or the variant couldn't be written.\n"
     )?;
+    if let TestSeen::Startable(first) = seen
+        && let Some(interpreter) = interpreter_in(first)
+    {
+        write!(
+            text,
+            "Its first line wants {interpreter}: that has to be there too.\n"
+        )?;
+    }
     push_by_hand(&mut text, test)?;
     Ok(text)
+}
+
+// The program that a test's first line names.
+fn interpreter_in(first: &[u8]) -> Option<&str> {
+    let Ok(line) = str::from_utf8(first) else {
+        return None;
+    };
+    line.strip_prefix("#!")?.trim().split(' ').next()
 }
 
 fn journal_text(

@@ -20,8 +20,21 @@ pub fn extension_remedy(word: &str) -> Option<&'static str> {
         | "size_t"
         | "ptrdiff_t"
         | "wchar_t"
-        | "va_list"
-        | "FILE" => FROM_HEADER,
+        | "EOF"
+        | "errno"
+        | "INT_MAX"
+        | "INT_MIN"
+        | "UINT_MAX"
+        | "LONG_MAX"
+        | "CHAR_BIT" => FROM_HEADER,
+        "assert" | "EXIT_SUCCESS" | "EXIT_FAILURE" | "RAND_MAX" => FROM_HEADER,
+        "va_list" | "va_start" | "va_arg" | "va_end" | "va_copy" | "__builtin_va_list" => {
+            "a function of your own has a fixed number of parameters"
+        }
+        "FILE" | "stdin" | "stdout" | "stderr" => "streams are left out: printf and putchar write",
+        "__func__" | "__FUNCTION__" | "__PRETTY_FUNCTION__" => {
+            "write the function's name as a string literal"
+        }
         "int8_t" | "int16_t" | "int32_t" | "int64_t" | "intptr_t" | "intmax_t" => FROM_HEADER,
         "uint8_t" | "uint16_t" | "uint32_t" | "uint64_t" | "uintptr_t" | "uintmax_t" => {
             FROM_HEADER

@@ -8,8 +8,10 @@
 mod asked;
 mod ends;
 mod extensions;
+mod forms;
 mod formulas;
 mod help;
+mod library;
 mod lines;
 mod options;
 mod place;

@@ -7,7 +7,7 @@ pub struct Place {
     pub end: usize,
     /// Of parse 4, which of its nine forms it is; else 0.
     pub form: u8,
-    /// Of parse 1, the bytes of a word in front of it that C11 hasn't, by which the parser may have come to it.
+    /// Of parse 1, the bytes of a word in front of it that C11 hasn't, or that stands where a type is wanted and is none.
     pub cause: Option<(usize, usize)>,
     /// Of parse 1, whether an identifier stands there.
     pub is_name: bool,
@@ -23,6 +23,22 @@ impl Place {
     /// The bytes there, where they are a text.
     pub fn text<'a>(&self, file: &'a [u8]) -> Option<&'a str> {
         text_at(file, self.start, self.end)
+    }
+
+    /// The bytes in front of it.
+    pub fn before<'a>(&self, file: &'a [u8]) -> &'a [u8] {
+        match file.get(..self.start) {
+            Some(bytes) => bytes,
+            None => &[],
+        }
+    }
+
+    /// The bytes behind it.
+    pub fn behind<'a>(&self, file: &'a [u8]) -> &'a [u8] {
+        match file.get(self.end..) {
+            Some(bytes) => bytes,
+            None => &[],
+        }
     }
 
     /// The bytes from there on.

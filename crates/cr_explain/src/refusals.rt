@@ -29,7 +29,7 @@ pub fn refusal_text(
         push_remedy(alloc, &mut text, file, place, kind, number)?;
     } else if kind == Kind::Type && number == 40 {
         text.push_str(
-            "Every function that is used is defined here, by the look of it: so main isn't, as int main(void), or an object is declared only.\n",
+            "All that is used is defined here, by the look of it: so main isn't, as int main(void), int main(), or with an int and a char **.\n",
         )?;
     }
     Ok(text)

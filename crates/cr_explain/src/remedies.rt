@@ -1,5 +1,7 @@
 // What can be done about a fault, by what stands there.
 use crate::extensions::extension_remedy;
+use crate::forms::form_remedy;
+use crate::library::library_remedy;
 use crate::place::{Place, is_of_library};
 use crate::shown::{Position, position_of};
 use cr_numbers::Kind;
@@ -21,11 +23,15 @@ pub fn remedy(
     };
     match (kind, number) {
         (Kind::Parse, 1) => misfit(alloc, file, place, spelled),
+        (Kind::Parse, 4) => match form_remedy(place.form, spelled) {
+            Some(text) => Ok(Some(format!(in alloc; "`{spelled}`: {text}")?)),
+            None => Ok(None),
+        },
         (Kind::Name, 1) => Ok(Some(unknown_name(alloc, spelled, position_of(file, place.start))?)),
         (Kind::Type, 40) => {
             let at = position_of(file, place.start);
             let text = format!(in alloc;
-                "{spelled} is used in {at}, and the file doesn't define it: give it a short body"
+                "{spelled} is used in {at}, and the file doesn't define it: give it a short body, or an object a declaration without extern"
             )?;
             Ok(Some(text))
         }
@@ -45,18 +51,52 @@ fn bad_byte(alloc: Global, bytes: &[u8]) -> Result<Option<String>, AllocError> {
         b'\\' =>
             "an escape that C hasn't, or a line that goes on behind a backslash: creduce-prepare joins these",
         b'.' | b'0'..=b'9' => return Ok(Some(bad_number(alloc, bytes)?)),
-        byte => {
-            let text = format!(in alloc;
-                "the byte 0x{byte:02X} begins no token, and stands in no literal"
-            )?;
-            return Ok(Some(text));
+        0xEF if bytes.starts_with(b"\xEF\xBB\xBF") => {
+            "a byte order mark: take these three bytes out of the file"
         }
+        byte => return Ok(Some(stray_byte(alloc, byte)?)),
     };
     Ok(Some(String::from_str(alloc, text)?))
 }
 
-// A number that is no integer constant, as it is spelled.
+fn stray_byte(alloc: Global, byte: u8) -> Result<String, AllocError> {
+    if byte.is_ascii_graphic() {
+        let c = char::from(byte);
+        format!(in alloc; "`{c}` begins no token here")
+    } else {
+        format!(in alloc; "the byte 0x{byte:02X} begins no token here")
+    }
+}
+
+// A number that is no integer constant.
 fn bad_number(alloc: Global, bytes: &[u8]) -> Result<String, AllocError> {
+    let spelled = number_at(alloc, bytes)?;
+    let why = why_no_integer(spelled.as_str());
+    format!(in alloc; "{spelled} is no integer constant: {why}")
+}
+
+fn why_no_integer(spelled: &str) -> &'static str {
+    let is_hexadecimal = spelled.starts_with("0x") || spelled.starts_with("0X");
+    if spelled.starts_with("0b") || spelled.starts_with("0B") {
+        "C11 has no binary ones, so write it with 0x"
+    } else if spelled.contains('.') || has_exponent(spelled, is_hexadecimal) {
+        "floating point is left out"
+    } else {
+        "its digits or its suffix aren't those of one, or no type holds it"
+    }
+}
+
+fn has_exponent(spelled: &str, is_hexadecimal: bool) -> bool {
+    let (small, large) = if is_hexadecimal {
+        ('p', 'P')
+    } else {
+        ('e', 'E')
+    };
+    spelled.contains(small) || spelled.contains(large)
+}
+
+// A number as it is spelled.
+fn number_at(alloc: Global, bytes: &[u8]) -> Result<String, AllocError> {
     let mut spelled = String::new(alloc);
     let mut is_exponent = false;
     for byte in bytes {
@@ -67,9 +107,7 @@ fn bad_number(alloc: Global, bytes: &[u8]) -> Result<String, AllocError> {
         is_exponent = matches!(*byte, b'e' | b'E' | b'p' | b'P');
         spelled.push(char::from(*byte))?;
     }
-    format!(in alloc;
-        "{spelled} is no integer constant that a type of the subset holds: floating point is left out"
-    )
+    Ok(spelled)
 }
 
 // A name that nothing declares.
@@ -87,9 +125,9 @@ fn unknown_name(alloc: Global, name: &str, at: Position) -> Result<String, Alloc
             "{name} is a function of the compiler: write one, or an expression in its place; creduce-prepare knows some"
         );
     }
-    if is_of_c(name) {
+    if let Some(text) = library_remedy(name) {
         return format!(in alloc;
-            "{name} is a function of the library, of which printf, putchar, abort and exit alone are known: define it in the file, or let creduce-prepare do so"
+            "{name} is a function of the library, of which printf, putchar, abort and exit alone are known: {text}"
         );
     }
     match extension_remedy(name) {
@@ -105,212 +143,113 @@ fn misfit(
     place: Place,
     spelled: &str,
 ) -> Result<Option<String>, AllocError> {
-    if let Some(word) = place.cause_text(file)
-        && let Some(text) = extension_remedy(word)
-    {
-        return Ok(Some(format!(in alloc; "`{word}`: {text}")?));
+    if let Some(word) = place.cause_text(file) {
+        let text = match extension_remedy(word) {
+            Some(text) => format!(in alloc; "`{word}`: {text}")?,
+            None => no_type(alloc, word)?,
+        };
+        return Ok(Some(text));
     }
-    match extension_remedy(spelled).or(token_remedy(spelled)) {
+    match extension_remedy(spelled).or(token_remedy(spelled, last_of(place.before(file)))) {
         Some(text) => Ok(Some(format!(in alloc; "`{spelled}`: {text}")?)),
-        None if place.is_name && wants_type(file, place.start) => {
-            let text = format!(in alloc;
-                "`{spelled}` is no type that is declared before: a header may have it (creduce-prepare), or, where parameters are declared behind their list, put their types into the list"
-            )?;
-            Ok(Some(text))
-        }
+        None if place.is_name => name_remedy(alloc, file, place, spelled),
         None => Ok(None),
     }
 }
 
-// Whether what stands at this byte of a file begins a declaration, by the byte in front of it.
-fn wants_type(file: &[u8], start: usize) -> bool {
-    let front = match file.get(..start) {
-        Some(front) => front,
-        None => return false,
+// What is done about a name that fits nowhere: what begins a declaration is a type.
+fn name_remedy(
+    alloc: Global,
+    file: &[u8],
+    place: Place,
+    spelled: &str,
+) -> Result<Option<String>, AllocError> {
+    if !matches!(
+        last_of(place.before(file)),
+        None | Some(b'(' | b',' | b';' | b'}')
+    ) {
+        return Ok(None);
+    }
+    let text = if is_called(place.behind(file)) {
+        format!(in alloc;
+            "`{spelled}` has no type in front, which C11 wants of each declaration: write int, if it is one"
+        )?
+    } else {
+        no_type(alloc, spelled)?
     };
-    for byte in front.iter().rev() {
+    Ok(Some(text))
+}
+
+fn no_type(alloc: Global, name: &str) -> Result<String, AllocError> {
+    format!(in alloc;
+        "`{name}` is no type that is declared before: a header may have it (creduce-prepare), or, where parameters are declared behind their list, put their types into the list"
+    )
+}
+
+// The last byte that is no white space.
+fn last_of(bytes: &[u8]) -> Option<u8> {
+    for byte in bytes.iter().rev() {
         if !byte.is_ascii_whitespace() {
-            return matches!(*byte, b'(' | b',' | b';' | b'}');
+            return Some(*byte);
         }
     }
-    true
+    None
 }
 
-// The same of punctuators and keywords.
-fn token_remedy(spelled: &str) -> Option<&'static str> {
-    Some(match spelled {
-        "..." =>
-            "a range of cases is no C11: write a case for each; and a function of your own has a fixed number of parameters",
-        "&&" => "the address of a label is no C11: use a switch",
-        "{" =>
-            "a statement within an expression is no C11: write a function, or the statements in front; braces hold one value at least",
-        "int"
-        | "char"
-        | "short"
-        | "long"
-        | "unsigned"
-        | "signed"
-        | "void"
-        | "struct"
-        | "enum"
-        | "const"
-        | "register" => {
-            "where these are the parameters behind their list, put their types into the list"
+// Whether an opening bracket comes first, white space aside.
+fn is_called(bytes: &[u8]) -> bool {
+    for byte in bytes {
+        if !byte.is_ascii_whitespace() {
+            return *byte == b'(';
         }
-        _ => return None,
-    })
+    }
+    false
 }
 
-// Functions of C11's library that programs call most.
-fn is_of_c(name: &str) -> bool {
-    is_of_text(name) || is_of_streams(name) || is_of_memory(name) || is_of_numbers(name)
+// The same of punctuators and keywords, by the byte in front.
+fn token_remedy(spelled: &str, front: Option<u8>) -> Option<&'static str> {
+    match spelled {
+        "..." => Some(
+            "a range of cases is no C11: write a case for each; and a function of your own has a fixed number of parameters",
+        ),
+        "&&" => Some("the address of a label is no C11: use a switch"),
+        "{" => brace_remedy(front?),
+        ":" if front == Some(b'?') => Some("C11 wants a value between `?` and `:`: write it out"),
+        "}" if front == Some(b'{') => {
+            Some("C11 wants something between these braces: write a value or a member")
+        }
+        _ if front == Some(b')') && is_type_word(spelled) => {
+            Some("where these are the parameters behind their list, put their types into the list")
+        }
+        _ => None,
+    }
 }
 
-fn is_of_text(name: &str) -> bool {
+fn brace_remedy(front: u8) -> Option<&'static str> {
+    match front {
+        b'(' => Some(
+            "a statement within an expression is no C11: write a function, or the statements in front",
+        ),
+        b')' => Some(
+            "no function stands within a function: define it in front; and parameters have their types in the list",
+        ),
+        _ => None,
+    }
+}
+
+fn is_type_word(spelled: &str) -> bool {
     matches!(
-        name,
-        "strlen"
-            | "strcmp"
-            | "strncmp"
-            | "strcpy"
-            | "strncpy"
-            | "strcat"
-            | "strncat"
-            | "strchr"
-            | "strrchr"
-            | "strstr"
-            | "strspn"
-            | "strcspn"
-            | "strpbrk"
-            | "strtok"
-            | "strerror"
-            | "strcoll"
-            | "strxfrm"
-            | "strdup"
-            | "isalpha"
-            | "isdigit"
-            | "isalnum"
-            | "isspace"
-            | "isupper"
-            | "islower"
-            | "ispunct"
-            | "isprint"
-            | "iscntrl"
-            | "isgraph"
-            | "isxdigit"
-            | "isblank"
-            | "toupper"
-            | "tolower"
-    )
-}
-
-fn is_of_streams(name: &str) -> bool {
-    matches!(
-        name,
-        "puts"
-            | "fputs"
-            | "fputc"
-            | "putc"
-            | "getchar"
-            | "getc"
-            | "fgetc"
-            | "fgets"
-            | "gets"
-            | "ungetc"
-            | "fprintf"
-            | "sprintf"
-            | "snprintf"
-            | "vprintf"
-            | "vfprintf"
-            | "vsprintf"
-            | "vsnprintf"
-            | "scanf"
-            | "fscanf"
-            | "sscanf"
-            | "fopen"
-            | "fclose"
-            | "fread"
-            | "fwrite"
-            | "fseek"
-            | "ftell"
-            | "rewind"
-            | "feof"
-            | "ferror"
-            | "fflush"
-            | "freopen"
-            | "remove"
-            | "rename"
-            | "tmpfile"
-            | "perror"
-            | "setbuf"
-            | "setvbuf"
-    )
-}
-
-fn is_of_memory(name: &str) -> bool {
-    matches!(
-        name,
-        "malloc"
-            | "calloc"
-            | "realloc"
-            | "free"
-            | "alloca"
-            | "memcpy"
-            | "memmove"
-            | "memset"
-            | "memcmp"
-            | "memchr"
-            | "qsort"
-            | "bsearch"
-            | "atexit"
-            | "getenv"
-            | "system"
-            | "signal"
-            | "raise"
-            | "longjmp"
-            | "setjmp"
-            | "time"
-            | "clock"
-            | "difftime"
-            | "mktime"
-            | "localtime"
-            | "gmtime"
-            | "strftime"
-    )
-}
-
-fn is_of_numbers(name: &str) -> bool {
-    matches!(
-        name,
-        "abs"
-            | "labs"
-            | "llabs"
-            | "div"
-            | "ldiv"
-            | "rand"
-            | "srand"
-            | "atoi"
-            | "atol"
-            | "atoll"
-            | "strtol"
-            | "strtoul"
-            | "strtoll"
-            | "strtoull"
-            | "atof"
-            | "strtod"
-            | "sqrt"
-            | "pow"
-            | "sin"
-            | "cos"
-            | "tan"
-            | "exp"
-            | "log"
-            | "floor"
-            | "ceil"
-            | "fabs"
-            | "fmod"
-            | "ldexp"
-            | "frexp"
-            | "modf"
+        spelled,
+        "int"
+            | "char"
+            | "short"
+            | "long"
+            | "unsigned"
+            | "signed"
+            | "void"
+            | "struct"
+            | "enum"
+            | "const"
+            | "register"
     )
 }

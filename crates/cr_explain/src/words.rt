@@ -17,8 +17,8 @@ struct Told<'a> {
     are_places: bool,
 }
 
-/// Why these words ask for nothing, as far as it is seen: the first word that is in no form, with a remedy. The program's own reader
-/// decides; what it refuses and this doesn't see is in no form all the same.
+/// Why these words ask for nothing, whatever TEST's tokens or formula are: the first word that is in no form, with a remedy. The program's own
+/// reader decides; `tests_words` compares the two.
 pub fn word_fault(alloc: Global, words: &[String]) -> Result<Option<String>, AllocError> {
     let is_replay = match words.first() {
         Some(first) => first.as_str() == "--replay",
@@ -69,6 +69,11 @@ fn one_word<'a>(
     word: &'a str,
     next: Option<&'a str>,
 ) -> Result<Option<String>, AllocError> {
+    // A flag is one in a value's place too.
+    if is_flag(told, word) {
+        told.flags.push(word)?;
+        return Ok(None);
+    }
     if let Some(name) = told.awaiting {
         told.awaiting = None;
         return value_fault(alloc, name, word);
@@ -81,11 +86,11 @@ fn one_word<'a>(
         told.are_places = true;
         return Ok(None);
     }
-    if !told.is_replay && FLAGS.contains(&word) {
-        told.flags.push(word)?;
-        return Ok(None);
-    }
     one_option(alloc, told, word, next)
+}
+
+fn is_flag(told: &Told<'_>, word: &str) -> bool {
+    !told.is_replay && !told.are_places && FLAGS.contains(&word)
 }
 
 // Takes an option's word.
@@ -161,9 +166,11 @@ fn places_fault(alloc: Global, places: &Vec<&str>) -> Result<Option<String>, All
     if test.is_empty() {
         return Ok(Some(format!(in alloc; "TEST is an empty word")?));
     }
-    if let Some(text) = source_fault(alloc, file)? {
-        return Ok(Some(text));
-    }
+    source_fault(alloc, file)
+}
+
+/// Why a TEST that is refused, and is no program, is in no form: its tokens or its formula.
+pub fn test_fault(alloc: Global, test: &str) -> Result<Option<String>, AllocError> {
     if test.starts_with("has:") {
         let text = format!(in alloc;
             "the text of \"{test}\" isn't made of one or more whole tokens of C"

@@ -39,8 +39,8 @@ fn place_of(tokens: &[Token], number: usize, form: u8) -> Option<Place> {
 
 // A token that fits nowhere.
 fn misfit(file: &[u8], tokens: &[Token], number: usize) -> Option<Place> {
-    let cause = cause(file, tokens, number);
-    let is_name = matches!(tokens.get(number)?.kind, TokenKind::Identifier);
+    let cause = cause(file, tokens, number).or(no_type(file, tokens, number));
+    let is_name = is_identifier(tokens.get(number)?);
     let place = place_of(tokens, number, 0)?;
     Some(Place {
         cause,
@@ -50,7 +50,7 @@ fn misfit(file: &[u8], tokens: &[Token], number: usize) -> Option<Place> {
 }
 
 /// Where the first fault of a file's tokens, its parse, its names or its types stands. Of K40, which stands at the last token, it is the first
-/// use of a function that the file doesn't define, if there is one.
+/// use of a function or an object that the file doesn't define, if there is one.
 pub fn first_place(alloc: Global, file: &[u8]) -> Result<Option<Place>, AllocError> {
     match read(alloc, file) {
         Ok(tokens) => place_in(alloc, file, &tokens),
@@ -127,7 +127,28 @@ fn cause(file: &[u8], tokens: &[Token], number: usize) -> Option<(usize, usize)>
     found
 }
 
-// The first use of a function that the file doesn't define, by the look of its declarations.
+// The name in front of a name, where a declaration begins with it.
+fn no_type(file: &[u8], tokens: &[Token], number: usize) -> Option<(usize, usize)> {
+    let word = tokens.get(number.checked_sub(1)?)?;
+    if !is_identifier(tokens.get(number)?) || !is_identifier(word) {
+        return None;
+    }
+    match number.checked_sub(2) {
+        Some(before) if !begins(spelled(file, tokens, before)) => None,
+        _ => Some((word.start as usize, word.end as usize)),
+    }
+}
+
+fn is_identifier(token: &Token) -> bool {
+    matches!(token.kind, TokenKind::Identifier)
+}
+
+// Whether a declaration begins behind this token.
+fn begins(front: Option<&str>) -> bool {
+    matches!(front, Some(";" | "{" | "}" | "(" | ","))
+}
+
+// The first use of a function or an object that the file doesn't define, by the look of its declarations.
 fn undefined_use(file: &[u8], tokens: &[Token], names: &Names) -> Option<Place> {
     for entity in names.entities.as_slice() {
         let declared = entity.declared.as_slice();
@@ -146,19 +167,63 @@ fn undefined_use(file: &[u8], tokens: &[Token], names: &Names) -> Option<Place> 
     None
 }
 
-// Whether these tokens declare a function, by a list behind the name, and none of them defines one, by a body behind the list.
+// Whether these tokens declare a function, by a list behind the name, or an object elsewhere, by `extern` in front of it, and none of them
+// defines one.
 fn are_undefined(file: &[u8], tokens: &[Token], declared: &[u32]) -> bool {
-    let mut is_function = false;
-    for name in declared {
-        let behind = (*name as usize).saturating_add(1);
-        if spelled(file, tokens, behind) == Some("(") {
-            is_function = true;
-            if spelled(file, tokens, behind_list(file, tokens, behind)) == Some("{") {
-                return false;
-            }
+    !declared.is_empty()
+        && declared
+            .iter()
+            .all(|name| is_elsewhere(file, tokens, *name as usize))
+}
+
+// Whether this declares something without a definition: a list behind the name and no body behind that, or `extern` and no value.
+fn is_elsewhere(file: &[u8], tokens: &[Token], name: usize) -> bool {
+    let behind = name.saturating_add(1);
+    if spelled(file, tokens, behind) == Some("(") {
+        spelled(file, tokens, behind_list(file, tokens, behind)) != Some("{")
+            && front_of(file, tokens, name) != Lead::Bracket
+    } else {
+        front_of(file, tokens, name) == Lead::Extern && !has_value(file, tokens, behind)
+    }
+}
+
+// What stands in front of a name in its declaration.
+#[derive(Clone, Copy, PartialEq, Eq)]
+enum Lead {
+    /// An opening bracket: it is a parameter, or stands in brackets of its own.
+    Bracket,
+    Extern,
+    Else,
+}
+
+fn front_of(file: &[u8], tokens: &[Token], name: usize) -> Lead {
+    let Some(before) = tokens.get(..name) else {
+        return Lead::Else;
+    };
+    let mut depth: usize = 0;
+    for token in before.iter().rev().take(LOOKED_AT) {
+        match text_at(file, token.start as usize, token.end as usize) {
+            Some("extern") => return Lead::Extern,
+            Some(";" | "{" | "}") => return Lead::Else,
+            Some(")") => depth = depth.saturating_add(1),
+            Some("(") if depth == 0 => return Lead::Bracket,
+            Some("(") => depth = depth.saturating_sub(1),
+            _ => {}
         }
     }
-    is_function
+    Lead::Else
+}
+
+// Whether a value stands behind a declared name.
+fn has_value(file: &[u8], tokens: &[Token], behind: usize) -> bool {
+    for number in behind..tokens.len() {
+        match spelled(file, tokens, number) {
+            Some("=") => return true,
+            Some("," | ";") => return false,
+            _ => {}
+        }
+    }
+    false
 }
 
 fn spelled<'a>(file: &'a [u8], tokens: &[Token], number: usize) -> Option<&'a str> {

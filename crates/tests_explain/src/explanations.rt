@@ -43,6 +43,7 @@ LOG and FILE are two words, and here are 1|--replay|a
 --workers 8 says that here|-j8|a|b
 did you mean --limit?|--limits|3|a|b
 did you mean --resume?|--resum|a|b
+TEST and FILE are two words, and here is only \"a\"|--limit|--journal|5|a
 --explain takes token 1 to 5|--explain|K44
 takes a number from 0 to 9223372036854775807, and not \"-1\"|--limit|-1|a|b
 ";
@@ -52,6 +53,10 @@ const FILES: &str = "\
 1: not in the subset: token 2|a directive|#include <stdio.h>/int main(void) { return 0; }/
 1: not in the subset: token 2|1.5e-3 is no integer constant|int x = 1.5e-3+1;/
 1: not in the subset: token 2|the byte 0xC3 begins no token|int ä;/
+1: not in the subset: token 2|`@` begins no token here|int x@;/
+1: not in the subset: token 2|0b11 is no integer constant: C11 has no binary ones|int x = 0b11;/
+1: not in the subset: token 2|0x1p3 is no integer constant: floating point is left out|int x = 0x1p3;/
+1: not in the subset: token 2|08 is no integer constant: its digits|int x = 08;/
 1: not in the subset: token 2|a character constant has one character|int x = 'ab';/
 1: not in the subset: token 2|an escape that C hasn't|char *s = \"\\e\";/
 1: not in the subset: name 1|`asm`: take it out|int main(void) { asm(\"nop\"); return 0; }/
@@ -63,14 +68,27 @@ const FILES: &str = "\
 1: not in the subset: parse 1|two of type unsigned long|__int128 x;/
 1: not in the subset: parse 1|creduce-prepare takes it out|int f(void) __attribute__((pure));/
 1: not in the subset: parse 1|`x` is no type that is declared before|int f(x) int x; { return x; }/
+1: not in the subset: parse 1|`u32` is no type that is declared before|int main(void) { u32 n = 1; return n; }/
 1: not in the subset: parse 1|`uint` is no type that is declared before|int f(int x, uint y);/
 1: not in the subset: parse 4|4. a call of anything but a plain name|int f(void); int main(void) { return (f)(); }/
 1: not in the subset: parse 4|1. a keyword without a rule|double x;/
+1: not in the subset: parse 4|`double`: floating point is left out|double x;/
+1: not in the subset: parse 4|`.`: give the values in their order|struct s { int m; } x = { .m = 1 };/
+1: not in the subset: parse 1|`main` has no type in front|main() { return 0; }/
+1: not in the subset: parse 1|`:`: C11 wants a value between|int main(void) { return 1 ?: 2; }/
+1: not in the subset: parse 1|`{`: no function stands within a function|int main(void) { int f(void) { return 1; } return f(); }/
+1: not in the subset: parse 1|`int`: where these are the parameters|int f() int x; { return x; }/
 2: not in the subset: name 1|nosuch isn't declared before line 2, column 25|int x;/int main(void) { return nosuch; }/
 1: not in the subset: name 1|strlen is a function of the library|int main(void) { return strlen(0); }/
+1: not in the subset: name 1|define it in the file, as creduce-prepare does|int main(void) { return strlen(0); }/
+1: not in the subset: name 1|define it in the file, or take the call out|int main(void) { malloc(1); return 0; }/
+1: not in the subset: name 1|`INT_MAX`: a header has it|int main(void) { return INT_MAX; }/
+1: not in the subset: name 1|`stderr`: streams are left out|int f(int x) { return x; } int main(void) { return f(stderr); }/
 1: not in the subset: name 1|__builtin_clz is a function of the compiler|int main(void) { return __builtin_clz(1); }/
 2: not in the subset: type 40|f is used in line 2, column 25, and the file doesn't define it|int f(void);/int main(void) { return f(); }/
 1: not in the subset: type 40|main isn't, as int main(void)|int f(void) { return 0; }/
+1: not in the subset: type 40|main isn't, as int main(void)|extern int f(int n), a[1] = { 1 }; int f(int n) { return a[n]; }/
+2: not in the subset: type 40|x is used in line 2, column 25, and the file doesn't define it|extern int x;/int main(void) { return x; }/
 1: not defined: U2|`~` or `%` by 0|int main(void) { return 1 ~ 0; }/
 1: not in the subset: name 1|    int main(void) { return x; }/                            ^|int main(void) { return x; }/
 1: not in the subset: parse 1|`...`: a range of cases|int main(void) { switch (1) { case 1 ... 3:; } return 0; }/
@@ -82,11 +100,12 @@ const FILES: &str = "\
 /// Other ends: the status, a part of what is said, the program's line, and the two words.
 const ENDS: &str = "\
 3|from the folder /here|creduce: no file f.c|./t.sh|f.c
-4|TEST comes first, then FILE: creduce ./t.sh f.c|creduce: ./t.sh:1: not in the subset: token 2|f.c|./t.sh
+4|TEST comes first, then FILE: creduce './t.sh' 'f.c'|creduce: ./t.sh:1: not in the subset: token 2|f.c|./t.sh
 6|(cd creduce-trial-0 && .././t.sh;|creduce: the test says no to f.c|./t.sh|f.c
 6|hasn't the tokens of \"x\"|creduce: the test says no to f.c|has:x|f.c
 8|There is no ./t.sh|creduce: the test failed on f.c|./t.sh|f.c
 8|The test failed on a variant|f.c size 9 to 8 accepted 1 turns 4 fault|./t.sh|f.c
+9|can't be read or written by you|creduce: file fault: f.c|./t.sh|f.c
 12|--resume goes on|creduce: journal fault: f.c.journal|has:x|f.c
 13|Record 3 of it|creduce: journal refused: f.c.journal 3|./t.sh|f.c
 14|At line 7 of the log|creduce: replay: line 7|f.c.log|f.c
