@@ -32,6 +32,8 @@ pub struct Ended {
     pub status: u8,
     /// What was put on standard output.
     pub put: Vec<u8>,
+    /// Whether the file was changed by somebody meanwhile, and left to them, which was said.
+    pub was_changed: bool,
 }
 
 /// What a run is of, besides its words.
@@ -175,6 +177,7 @@ fn refused(rt: &HostRuntime) -> Ended {
     Ended {
         status: NOT_BEGUN,
         put: Vec::new(rt.alloc()),
+        was_changed: false,
     }
 }
 
@@ -248,6 +251,7 @@ fn reduce(
     Ok(Ended {
         status,
         put: out.so_far().to_vec(rt.alloc())?,
+        was_changed: world.was_changed(),
     })
 }
 

@@ -13,7 +13,7 @@ const MOST: usize = 1 << 25;
 
 /// Says what a person needs beside the status and the program's line, where quiet isn't asked for. What can't be said stays unsaid.
 pub fn explain(rt: &HostRuntime, words: &[String], ended: &Ended) -> Result<(), AllocError> {
-    if is_quiet(rt) || !matches!(ended.status, 2..=6 | 8 | 12..=14) {
+    if is_quiet(rt) || ended.was_changed || !matches!(ended.status, 2..=6 | 8 | 9 | 12..=14) {
         return Ok(());
     }
     let put = String::from_utf8_lossy(rt.alloc(), ended.put.as_slice())?;
