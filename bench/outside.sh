@@ -203,6 +203,10 @@ fresh && mkdir kept && echo kept >kept/kept
 printf '#!/bin/sh\nme=$(pwd); grep -q main f.c || exit 1; cd .. && mv "$me" "$me.$$" && ln -s kept "$me"\n' >t.sh
 call --workers 1 ./t.sh f.c
 is "a link in the folder's place goes" '[ $status = 0 ] && [ "$(<kept/kept)" = kept ] && [ "$(ls kept)" = kept ]'
+fresh && printf '#!/bin/sh\ngrep -q main f.c || exit 1; me=$PWD; cd .. && rm -r "$me" && mkfifo "$me"\n' >t.sh && call --workers 1 ./t.sh f.c
+is "so does a pipe" '[ $status = 0 ]'
+fresh && printf '#!/bin/sh\ngrep -q main f.c || exit 1; mkfifo p; mkdir -p d/e; mkfifo d/e/p; ln -s /dev/zero d/z\n' >t.sh && call --workers 1 ./t.sh f.c
+is "and so do pipes within it" '[ $status = 0 ]'
 fresh && mkdir creduce-trial-1 && echo mine >creduce-trial-1/mine && call --workers 4 ./t.sh f.c
 is 'a folder of that name that is mine' '[ $status = 1 ] && says "creduce-trial-1 isn'"'"'t creduce'"'"'s own" && [ "$(<creduce-trial-1/mine)" = mine ] && unchanged'
 fresh && call --workers 1 ./t.sh f.c && printf '%s\n' "$text" >creduce-trial-0/f.c && call --workers 1 ./t.sh creduce-trial-0/f.c

@@ -2,7 +2,7 @@
 ghost use Rattle.std.specs.Prelude.{◌≡◌, None};
 
 use crate::faults::{allowing, fault_of};
-use crate::older::keep_away;
+use crate::older::{keep_away, stands};
 use cr_place::{Place, PlaceFault};
 use std::alloc::Global;
 use std::fs::{self, File, Metadata, OpenOptions};
@@ -84,13 +84,16 @@ impl<R: Clock + Clone + Drop + SystemFiles<File = File>> Room<'_, R> {
         Ok(())
     }
 
-    // Takes away what stands there, also while somebody still writes in it.
+    // Takes away what stands there, also while somebody still writes in it. A pipe isn't opened for that: it would wait.
     fn remove(&self, alloc: Global, folder: &str) -> io::Result<()> {
+        if !stands(self.rt, folder)? {
+            return Ok(());
+        }
+        if !fs::symlink_metadata(self.rt, folder)?.is_dir() {
+            return fs::remove_file(self.rt, folder);
+        }
         for _ in 0..TRIES {
             match self.rt.remove_dir_all(alloc, folder) {
-                Err(e) if e.kind() == ErrorKind::NotADirectory => {
-                    return fs::remove_file(self.rt, folder);
-                }
                 Err(e) if e.kind() == ErrorKind::DirectoryNotEmpty => {
                     thread::sleep(self.rt, Duration::from_millis(PAUSE));
                 }
