@@ -48,6 +48,7 @@ within() {
 says() { [[ $err == *"$1"* ]]; }
 text='int f(void) { return 1; }
 int main(void) { return f(); }'
+lists() { printf 'int a%s;\n' $(seq 30); printf 'int main(void) { return 0; }\n'; }
 unchanged() { [ "$(<f.c)" = "$text" ] && [ ! -e f.c.orig ] && [ ! -e f.c.log ]; }
 kept() { [ "$(<f.c)" = "$text" ]; }
 mode() { stat -c %a "$1"; }
@@ -229,7 +230,6 @@ call ./t.sh f.c
 is 'a second run in a folder waits for 10 s, and is refused' '[ $status = 1 ] && says "another run uses the folders creduce-trial-K here (process $first reduces g.c)"'
 call has:main f.c
 is 'one that needs no folders runs' '[ $status = 0 ]'
-lists() { printf 'int a%s;\n' $(seq 30); printf 'int main(void) { return 0; }\n'; }
 false_ones=0 refused=0
 for name in one two three four five; do
     mkdir -p $name/f $name/g && lists >$name/f/f.c && lists >$name/g/f.c

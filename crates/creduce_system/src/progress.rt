@@ -288,7 +288,7 @@ impl<'a> Progress<'a> {
         }
         for (judge, begun) in trials.begun.iter().enumerate() {
             let waited = now.saturating_sub(begun.unwrap_or(now));
-            if waited >= MINUTE {
+            if waited >= MINUTE / 2 {
                 let _ = self.say_long(rt, judge, waited);
             }
         }
