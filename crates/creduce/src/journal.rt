@@ -2,7 +2,7 @@
 use crate::one_run::Subject;
 use crate::refused::{program_sum, test_sum};
 use cr_outside::Files;
-use cr_start::{Begun, Ending, JournalWords, words_text};
+use cr_start::{Begun, Ending, JournalWords, Plain, words_text};
 use creduce_system::{StdFiles, has_length};
 use std::alloc::AllocError;
 use std::fs;
@@ -34,6 +34,7 @@ pub fn words_of(
         .write(rt.alloc(), path.as_str(), text.as_bytes())
         .is_err()
     {
+        let path = Plain(path.as_str());
         let _ = eprintln!(rt;
             "creduce: {path} could not be written, so --resume will not go on with this run"
         );

@@ -241,6 +241,7 @@ fn reduce(
     );
     progress.finish(rt);
     if let Some(kept) = world.kept() {
+        let kept = Plain(kept.as_str());
         let _ = eprintln!(rt; "creduce: the copy of an earlier run is kept as {kept}");
     }
     if world.was_changed() {

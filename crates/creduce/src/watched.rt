@@ -1,6 +1,6 @@
 // Who waits for the end of a run beside it.
 use crate::one_run::Subject;
-use cr_start::quoted;
+use cr_start::{Plain, quoted};
 use creduce_system::{Lock, Watchman, watch};
 use std::alloc::AllocError;
 use std::process::Processes;
@@ -39,6 +39,7 @@ fn how_on(rt: &HostRuntime, run: &Subject<'_>, words: &[String]) -> Result<Strin
         return Ok(how);
     };
     if !run.keeps_journal() {
+        let name = Plain(name);
         write!(
             how,
             "creduce: the smallest variant that passed the test, if one did, is {name}.best; a run with --journal is gone on with by --resume"

@@ -3,6 +3,7 @@ ghost use Rattle.std.specs.Prelude.{◌≡◌, ◌≤◌, Some};
 ghost use Rattle.creduce_system.specs.Progress.{is_smallest, smallest_of};
 
 use crate::best::Best;
+use cr_start::Plain;
 use std::alloc::Global;
 use std::fmt::{self, Display, Formatter};
 use std::fs::File;
@@ -180,6 +181,7 @@ impl<'a> Progress<'a> {
             return;
         }
         if !trials.is_missed && self.shown != Shown::Nothing {
+            let reduced = Plain(reduced);
             let _ = eprintln!(rt; "creduce: {reduced}.best could not be written");
         }
         trials.is_missed = true;

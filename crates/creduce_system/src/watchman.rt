@@ -8,8 +8,8 @@ use std::process::{Child, Command, Processes, Stdio};
 /// what is left. It hears no signal that ends the program's own group. Its words are the mark, the file and what else is said.
 const SCRIPT: &str = "trap '' INT TERM HUP QUIT; read -r word && exit 0; \
 sweep() { for f in $(grep -lszxF \"CREDUCE_RUN=$1\" /proc/[0-9]*/environ); do p=${f#/proc/}; kill -\"$2\" \"${p%/environ}\" 2>/dev/null; done; }; \
-sweep \"$1\" TERM; sleep 1; sweep \"$1\" KILL; \
-if [ -z \"$2\" ]; then left=; elif [ ! -e \"$2.orig\" ] || cmp -s -- \"$2\" \"$2.orig\"; then left=\"; $2 is as it was\"; else left=\"; $2 has its old bytes or the result's\"; fi; \
+sweep \"$1\" TERM; sleep 1; sweep \"$1\" KILL; name=$(printf %s \"$2\" | tr '[:cntrl:]' '?'); \
+if [ -z \"$2\" ]; then left=; elif [ ! -e \"$2.orig\" ] || cmp -s -- \"$2\" \"$2.orig\"; then left=\"; $name is as it was\"; else left=\"; $name has its old bytes or the result's\"; fi; \
 printf 'creduce: ended from outside%s\\n' \"$left\" >&2; [ -z \"$3\" ] || printf '%s\\n' \"$3\" >&2";
 
 /// The child, once it runs. `P` is a process of the system's.
