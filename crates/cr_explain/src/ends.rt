@@ -254,7 +254,7 @@ fn journal_text(
             "Record {record} of it is no variant of the file before it, by these --passes and --steps, or isn't in the form.\n"
         );
     }
-    if words.iter().any(|word| word.as_str() == FLAGS[0]) {
+    if words.iter().any(|word| word.as_str() == "--journal") {
         return format!(in alloc;
             "{file}.journal is there already: go on with it by --resume in the place of --journal, or remove it to begin anew.\n"
         );

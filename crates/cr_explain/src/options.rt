@@ -32,6 +32,11 @@ pub fn unknown_option(alloc: Global, word: &str, next: Option<&str>) -> Result<S
             "--explain takes token 1 to 5, parse 1 to 4, name 1 or 2, K1 to K43, U1 to U16, N1 to N8, or all"
         );
     }
+    if matches!(name, "--install" | "--prove") {
+        return format!(in alloc;
+            "{name} is the first word, and for creduce in the folder of its sources, which builds the program"
+        );
+    }
     if FIRST.contains(&name) {
         return format!(in alloc; "{name} is the first word, where it stands");
     }

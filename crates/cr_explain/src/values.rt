@@ -40,27 +40,35 @@ fn is_within(value: &str, least: u64, most: u64) -> bool {
 
 // Whether these name passes, each once.
 fn are_letters(value: &str) -> bool {
-    let mut seen = [false; 10];
+    if value.is_empty() || value.len() > 10 {
+        return false;
+    }
     for letter in value.bytes() {
-        let index: usize = match letter {
-            b'l' => 0,
-            b't' => 1,
-            b'b' => 2,
-            b'u' => 3,
-            b's' => 4,
-            b'c' => 5,
-            b'i' => 6,
-            b'p' => 7,
-            b'r' => 8,
-            b'f' => 9,
-            _ => return false,
-        };
-        if seen[index] {
+        if !is_letter(letter) || stands_twice(value, letter) {
             return false;
         }
-        seen[index] = true;
     }
-    !value.is_empty()
+    true
+}
+
+fn is_letter(letter: u8) -> bool {
+    matches!(
+        letter,
+        b'l' | b't' | b'b' | b'u' | b's' | b'c' | b'i' | b'p' | b'r' | b'f'
+    )
+}
+
+fn stands_twice(value: &str, letter: u8) -> bool {
+    let mut is_there = false;
+    for other in value.bytes() {
+        if other == letter {
+            if is_there {
+                return true;
+            }
+            is_there = true;
+        }
+    }
+    false
 }
 
 /// What is wrong with a word as the name of a file, or as a generated program, if anything.

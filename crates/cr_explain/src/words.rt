@@ -140,8 +140,8 @@ fn modes_fault(alloc: Global, told: &Told<'_>) -> Result<Option<String>, AllocEr
         )?;
         return Ok(Some(text));
     }
-    for (at, flag) in flags.iter().enumerate() {
-        if flags[..at].contains(flag) {
+    for flag in flags {
+        if stands_twice(flags, flag) {
             return Ok(Some(format!(in alloc; "{flag} stands twice")?));
         }
     }
@@ -156,6 +156,19 @@ fn modes_fault(alloc: Global, told: &Told<'_>) -> Result<Option<String>, AllocEr
         }
         _ => Ok(None),
     }
+}
+
+fn stands_twice(flags: &[&str], flag: &str) -> bool {
+    let mut is_there = false;
+    for other in flags {
+        if *other == flag {
+            if is_there {
+                return true;
+            }
+            is_there = true;
+        }
+    }
+    false
 }
 
 // What is wrong with TEST and FILE.

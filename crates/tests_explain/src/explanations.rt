@@ -40,6 +40,7 @@ LOG and FILE are two words, and here are 1|--replay|a
 --journal doesn't stand with --replay|--replay|--journal|a|b
 --journal takes no value|--journal=yes|a|b
 --replay is the first word|a|--replay|b
+for creduce in the folder of its sources|--prove
 --workers 8 says that here|-j8|a|b
 did you mean --limit?|--limits|3|a|b
 did you mean --resume?|--resum|a|b
