@@ -51,6 +51,26 @@ impl Table {
         ensures made { IfOk result (λ r. IsRow self.new r (qualified constant volatile (type_at self.old row))) }
         ensures grows { OnOk result (Grows self.old self.new) }
     {
+        if constant {
+            self.more_qualified(row, constant, volatile)
+        } else if volatile {
+            self.more_qualified(row, constant, volatile)
+        } else {
+            Ok(row)
+        }
+    }
+
+    // Where there are none to add, no level of an array is walked.
+    fn more_qualified(
+        &mut self,
+        row: u32,
+        constant: bool,
+        volatile: bool,
+    ) -> Result<u32, AllocError>
+        requires { row < length self.old }
+        ensures made { IfOk result (λ r. IsRow self.new r (qualified constant volatile (type_at self.old row))) }
+        ensures grows { OnOk result (Grows self.old self.new) }
+    {
         let mut inner = row;
         // The arrays so far, from the innermost outwards.
         let mut levels = self.add(Shape::plain(CType::Void))?;

@@ -3,3 +3,4 @@ pub mod Free
 pub mod Own
 pub mod Hits
 pub mod Taken
+pub mod Outer

@@ -1,5 +1,5 @@
 -- Where what tokens name is declared and used (C11 6.2.1).
-use Rattle.std.specs.Prelude.{ℕ, ◌+◌, ◌-◌, Bool, not, ◌&&◌, ◌||◌, ◌==◌, nat_le, List, [], Option, None, Some, slice_index_or}
+use Rattle.std.specs.Prelude.{ℕ, ◌+◌, ◌-◌, Bool, not, ◌&&◌, ◌||◌, ◌==◌, ◌≡◌, nat_le, true, List, [], Option, None, Some, slice_index_or}
 use Rattle.std.specs.List.{list_all, list_any, range_with_len}
 use Rattle.cr_scopes.specs.declared.names.Entity.{Entity}
 use Rattle.cr_scopes.specs.declared.names.Names.{Names}
@@ -46,3 +46,12 @@ is_own names first last token = not (declares names token) || has_no_use_outside
 -- nothing that is declared from one token to another has a use outside
 abbrev pub are_own : Names → ℕ → ℕ → Bool
 are_own names first last = list_all (is_own names first last) (range_with_len first (last + 1 - first))
+
+-- two tokens, if there are any, stand from one to another
+abbrev pub fits : ℕ → ℕ → Option (ℕ × ℕ) → Bool
+fits first last None = true
+fits first last (Some outer) = nat_le first outer.0 && nat_le outer.1 last
+
+-- by these pairs, one for each token, it is told whether what a token declares has a use outside
+abbrev pub AreOuter : Names → List (Option (ℕ × ℕ)) → Type 0
+AreOuter names outer = (first last token : ℕ) → fits first last (slice_index_or outer token None) ≡ is_own names first last token

@@ -1,11 +1,13 @@
 // Which members are used.
 ghost use Rattle.std.specs.Prelude.{◌≡◌, ◌++◌, IfOk, OnOk};
-ghost use Rattle.pass_names.specs.Members.{is_unused_member, is_used_member, member_use_by, member_uses, structure_at};
+ghost use Rattle.std.specs.HashSet.{contains};
+ghost use Rattle.pass_names.specs.Members.{AreUsed, is_unused_member, is_used_member, member_use_by, member_uses, same_member, structure_at};
 
 use cr_syntax::Node;
 use cr_tokens::Token;
 use pass_levels::{span_at, spelling_at};
 use std::alloc::{AllocError, Global};
+use std::collections::HashSet;
 
 /// A token behind `.` or `->`, and the structure whose member it names, by its content.
 #[derive(Clone, Copy)]
@@ -14,18 +16,20 @@ pub(crate) struct MemberUse {
     pub token: u32,
 }
 
-/// Whether no token names a member of a structure, of the name that this token has.
+/// Whether no token names a member of a structure, of the name that this token has. The used members are looked for in a set.
 pub(crate) fn is_unused_member(
     file: &[u8],
     tokens: &[Token],
     uses: &[MemberUse],
+    used: &HashSet<(usize, &[u8])>,
     content: usize,
     member: Option<u32>,
 ) -> bool
+    requires { AreUsed file.now tokens.now uses.now (contains same_member used.now) }
     ensures { result ≡ is_unused_member file.now tokens.now uses.now content member }
 {
     match member {
-        Some(token) => !is_used_member(file, tokens, uses, content, token as usize),
+        Some(token) => !is_used_member(file, tokens, uses, used, content, token as usize),
         None => false,
     }
 }
@@ -33,16 +37,34 @@ pub(crate) fn is_unused_member(
 fn is_used_member(
     file: &[u8],
     tokens: &[Token],
-    uses: &[MemberUse],
+    _uses: &[MemberUse],
+    used: &HashSet<(usize, &[u8])>,
     content: usize,
     token: usize,
 ) -> bool
-    ensures { result ≡ is_used_member file.now tokens.now uses.now content token }
+    requires { AreUsed file.now tokens.now _uses.now (contains same_member used.now) }
+    ensures { result ≡ is_used_member file.now tokens.now _uses.now content token }
 {
-    let name = spelling_at(file, tokens, token);
-    uses.iter().any(|used| {
-        used.structure as usize == content && spelling_at(file, tokens, used.token as usize) == name
-    })
+    used.contains(&(content, spelling_at(file, tokens, token)))
+}
+
+/// The members that are used, each by its structure and its name.
+pub(crate) fn used_members<'a>(
+    alloc: Global,
+    file: &'a [u8],
+    tokens: &[Token],
+    uses: &[MemberUse],
+) -> Result<HashSet<(usize, &'a [u8])>, AllocError>
+    ensures { IfOk result (λ used. AreUsed file.now tokens.now uses.now (contains same_member used)) }
+{
+    let mut used = HashSet::new(alloc);
+    for one in uses {
+        used.insert((
+            one.structure as usize,
+            spelling_at(file, tokens, one.token as usize),
+        ))?;
+    }
+    Ok(used)
 }
 
 /// The uses of members, where the nodes name members of these structures.

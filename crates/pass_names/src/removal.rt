@@ -1,16 +1,17 @@
 // Pass u: what has no use.
 ghost use Rattle.std.specs.Prelude.{◌≡◌, ◌++◌, ◌∷◌, [], length, drop, IfOk, OnOk};
+ghost use Rattle.std.specs.HashSet.{contains};
 ghost use Rattle.std.specs.List.{flat_map, list_any};
 ghost use Rattle.pass_levels.specs.Gathered.{gathered};
 ghost use Rattle.pass_levels.specs.Level.{level_of};
 ghost use Rattle.pass_levels.specs.Nodes.{node_at};
 ghost use Rattle.pass_levels.specs.Places.{gone as gone_by, with_comma as with_comma_by};
 ghost use Rattle.pass_names.specs.Reach.{is_within as is_within_by};
-ghost use Rattle.pass_names.specs.Members.{member_uses};
+ghost use Rattle.pass_names.specs.Members.{AreUsed, member_uses, same_member};
 ghost use Rattle.pass_names.specs.Unused.{declaration_by, declarations_give, declarator_gives, declarator_in, declarators_give, enumerator_gives, is_declared_unused, is_empty, is_unused, items_give, member_change, member_gives, members_give, part_at, parts_give, row_gives, u_levels, u_offering};
 
-use crate::members::{MemberUse, is_unused_member, member_uses};
-use crate::reach::{are_own, has_no_use_outside, is_within, uses_of};
+use crate::members::{MemberUse, is_unused_member, member_uses, used_members};
+use crate::reach::{Reach, are_own, has_no_use_outside, is_within, reach_of, uses_of};
 use crate::reserved::reserved_of;
 use cr_rows::Row;
 use cr_scopes::Names;
@@ -23,23 +24,24 @@ use pass_levels::{
     with_comma,
 };
 use std::alloc::{AllocError, Global};
+use std::collections::HashSet;
 
 // Each external declaration without use goes.
 #[derive(Drop)]
 struct ItemsGo<'a> {
     tokens: &'a [Token],
     nodes: &'a [Node],
-    names: &'a Names,
+    reach: &'a Reach<'a>,
     mains: &'a [u32],
     items: &'a [u32],
 }
 
 impl Turns for ItemsGo<'_> {
-    ghost gives = { λ l at. items_give l.tokens.now l.nodes.now l.names.now l.mains.now l.items.now at };
+    ghost gives = { λ l at. items_give l.tokens.now l.nodes.now l.reach.now.names.now l.mains.now l.items.now at };
 
     fn give(&self, _alloc: Global, at: usize, edits: &mut Edits) -> Result<(), AllocError> {
         let item = part_at(self.items, at) as usize;
-        if is_unused(self.names, self.mains, self.nodes, item) {
+        if is_unused(self.reach, self.mains, self.nodes, item) {
             edits.push(&[node_gone(self.tokens, self.nodes, item)])?;
         }
         Ok(())
@@ -62,11 +64,11 @@ fn part_at(parts: &[u32], at: usize) -> u32
     }
 }
 
-fn is_unused(names: &Names, mains: &[u32], nodes: &[Node], node: usize) -> bool
-    ensures { result ≡ is_unused names.now mains.now (node_at nodes.now node) }
+fn is_unused(reach: &Reach, mains: &[u32], nodes: &[Node], node: usize) -> bool
+    ensures { result ≡ is_unused reach.now.names.now mains.now (node_at nodes.now node) }
 {
     let (first, last) = span_at(nodes, node);
-    !has_within(first, last, mains) && are_own(names, first, last)
+    !has_within(first, last, mains) && are_own(reach, first, last)
 }
 
 fn has_within(first: u32, last: u32, tokens: &[u32]) -> bool
@@ -195,12 +197,12 @@ fn is_declared_unused(nodes: &[Node], names: &Names, declarator: u32) -> bool
 struct DeclarationsGo<'a> {
     tokens: &'a [Token],
     nodes: &'a [Node],
-    names: &'a Names,
+    reach: &'a Reach<'a>,
     mains: &'a [u32],
 }
 
 impl Level for DeclarationsGo<'_> {
-    ghost gives = { λ l k. declarations_give l.tokens.now l.nodes.now l.names.now l.mains.now k };
+    ghost gives = { λ l k. declarations_give l.tokens.now l.nodes.now l.reach.now.names.now l.mains.now k };
 
     fn give(&self, alloc: Global, node: usize, all: &mut Vec<Counted>) -> Result<(), AllocError> {
         match kind_at(self.nodes, node) {
@@ -210,7 +212,7 @@ impl Level for DeclarationsGo<'_> {
                     alloc,
                     self.tokens,
                     self.nodes,
-                    self.names,
+                    self.reach,
                     self.mains,
                     parts,
                     all,
@@ -225,15 +227,15 @@ fn put_declarations(
     alloc: Global,
     tokens: &[Token],
     nodes: &[Node],
-    names: &Names,
+    reach: &Reach,
     mains: &[u32],
     parts: &[u32],
     all: &mut Vec<Counted>,
 ) -> Result<(), AllocError>
-    ensures { OnOk result (all.new.items ≡ all.old.items ++ flat_map (λ p. declaration_by (node_at nodes.now p).kind tokens.now names.now mains.now (node_at nodes.now p)) parts.now) }
+    ensures { OnOk result (all.new.items ≡ all.old.items ++ flat_map (λ p. declaration_by (node_at nodes.now p).kind tokens.now reach.now.names.now mains.now (node_at nodes.now p)) parts.now) }
 {
     for part in parts {
-        put_declaration(alloc, tokens, nodes, names, mains, *part as usize, all)?;
+        put_declaration(alloc, tokens, nodes, reach, mains, *part as usize, all)?;
     }
     Ok(())
 }
@@ -242,15 +244,15 @@ fn put_declaration(
     alloc: Global,
     tokens: &[Token],
     nodes: &[Node],
-    names: &Names,
+    reach: &Reach,
     mains: &[u32],
     part: usize,
     all: &mut Vec<Counted>,
 ) -> Result<(), AllocError>
-    ensures { OnOk result (all.new.items ≡ all.old.items ++ declaration_by (node_at nodes.now part).kind tokens.now names.now mains.now (node_at nodes.now part)) }
+    ensures { OnOk result (all.new.items ≡ all.old.items ++ declaration_by (node_at nodes.now part).kind tokens.now reach.now.names.now mains.now (node_at nodes.now part)) }
 {
     match kind_at(nodes, part) {
-        Kind::Declaration => if is_unused(names, mains, nodes, part) {
+        Kind::Declaration => if is_unused(reach, mains, nodes, part) {
             let change = node_gone(tokens, nodes, part);
             all.push(counted(alloc, nodes, part, change)?)?;
         },
@@ -261,15 +263,17 @@ fn put_declaration(
 
 // Each enumerator and each member without use goes.
 #[derive(Drop)]
-struct PartsGo<'a> {
+struct PartsGo<'a, 'b> {
     file: &'a [u8],
-    tokens: &'a [Token],
-    nodes: &'a [Node],
-    names: &'a Names,
-    uses: &'a [MemberUse],
+    tokens: &'b [Token],
+    nodes: &'b [Node],
+    names: &'b Names,
+    uses: &'b [MemberUse],
+    used: &'b HashSet<(usize, &'a [u8])>,
+    ghost set: { AreUsed file.now tokens.now uses.now (contains same_member used.now) },
 }
 
-impl Level for PartsGo<'_> {
+impl Level for PartsGo<'_, '_> {
     ghost gives = { λ l k. parts_give l.file.now l.tokens.now l.nodes.now l.names.now l.uses.now k };
 
     fn give(&self, alloc: Global, node: usize, all: &mut Vec<Counted>) -> Result<(), AllocError> {
@@ -286,6 +290,7 @@ impl Level for PartsGo<'_> {
                     self.tokens,
                     self.nodes,
                     self.uses,
+                    self.used,
                     node,
                     declarations,
                     all,
@@ -348,16 +353,20 @@ fn put_all_members(
     tokens: &[Token],
     nodes: &[Node],
     uses: &[MemberUse],
+    used: &HashSet<(usize, &[u8])>,
     content: usize,
     declarations: &[u32],
     all: &mut Vec<Counted>,
 ) -> Result<(), AllocError>
+    requires { AreUsed file.now tokens.now uses.now (contains same_member used.now) }
     ensures { OnOk result (all.new.items ≡ all.old.items ++ flat_map (λ p. members_give file.now tokens.now nodes.now uses.now content (node_at nodes.now p)) declarations.now) }
 {
     for declaration in declarations {
         let whole = *declaration as usize;
         let row = behind_first(parts_at(nodes, whole));
-        put_members(alloc, file, tokens, nodes, uses, content, whole, row, all)?;
+        put_members(
+            alloc, file, tokens, nodes, uses, used, content, whole, row, all,
+        )?;
     }
     Ok(())
 }
@@ -368,16 +377,18 @@ fn put_members(
     tokens: &[Token],
     nodes: &[Node],
     uses: &[MemberUse],
+    used: &HashSet<(usize, &[u8])>,
     content: usize,
     whole: usize,
     row: &[u32],
     all: &mut Vec<Counted>,
 ) -> Result<(), AllocError>
+    requires { AreUsed file.now tokens.now uses.now (contains same_member used.now) }
     ensures { OnOk result (all.new.items ≡ all.old.items ++ gathered (member_gives file.now tokens.now nodes.now uses.now content (node_at nodes.now whole) row.now) (length row.now)) }
 {
     for at in 0..row.len() {
         put_member(
-            alloc, file, tokens, nodes, uses, content, whole, row, at, all,
+            alloc, file, tokens, nodes, uses, used, content, whole, row, at, all,
         )?;
     }
     Ok(())
@@ -389,16 +400,19 @@ fn put_member(
     tokens: &[Token],
     nodes: &[Node],
     uses: &[MemberUse],
+    used: &HashSet<(usize, &[u8])>,
     content: usize,
     whole: usize,
     row: &[u32],
     at: usize,
     all: &mut Vec<Counted>,
 ) -> Result<(), AllocError>
+    requires { AreUsed file.now tokens.now uses.now (contains same_member used.now) }
     ensures { OnOk result (all.new.items ≡ all.old.items ++ member_gives file.now tokens.now nodes.now uses.now content (node_at nodes.now whole) row.now at) }
 {
     let part = part_at(row, at);
-    if is_unused_member(file, tokens, uses, content, declared_by(nodes, part).name) {
+    let name = declared_by(nodes, part).name;
+    if is_unused_member(file, tokens, uses, used, content, name) {
         let change = member_change(tokens, nodes, whole, at, row.len(), part as usize);
         all.push(counted(alloc, nodes, part as usize, change)?)?;
     }
@@ -433,6 +447,7 @@ fn parts_go(
     ensures { IfOk result (λ edits. edits ≡ level_of (parts_give file.now tokens.now nodes.now names.now (member_uses nodes.now structures.now)) (length nodes.now)) }
 {
     let uses = member_uses(alloc, nodes, structures)?;
+    let used = used_members(alloc, file, tokens, uses.as_slice())?;
     list(
         alloc,
         nodes.len(),
@@ -442,6 +457,7 @@ fn parts_go(
             nodes,
             names,
             uses: uses.as_slice(),
+            used: &used,
         },
     )
 }
@@ -452,18 +468,19 @@ fn levels(
     tokens: &[Token],
     nodes: &[Node],
     items: &[u32],
-    names: &Names,
+    reach: &Reach,
     structures: &[Option<u32>],
     mains: &[u32],
 ) -> Result<Menu, AllocError>
-    ensures { IfOk result (λ menu. menu ≡ u_levels file.now tokens.now nodes.now items.now names.now structures.now mains.now) }
+    ensures { IfOk result (λ menu. menu ≡ u_levels file.now tokens.now nodes.now items.now reach.now.names.now structures.now mains.now) }
 {
     let count = nodes.len();
+    let names = reach.names;
     let mut levels = Vec::new(alloc);
     let items_go = ItemsGo {
         tokens,
         nodes,
-        names,
+        reach,
         mains,
         items,
     };
@@ -477,7 +494,7 @@ fn levels(
     let declarations_go = DeclarationsGo {
         tokens,
         nodes,
-        names,
+        reach,
         mains,
     };
     levels.push(list(alloc, count, &declarations_go)?)?;
@@ -498,10 +515,11 @@ pub fn unused(
 ) -> Result<Menu, AllocError>
     ensures { IfOk result (λ menu. menu ≡ u_offering file.now unit.now.tokens.list.items unit.now.nodes unit.now.items names.now structures.now) }
 {
+    let reach = reach_of(alloc, names)?;
     let mains = reserved_of(alloc, file, unit, false)?;
     let mains = mains.as_slice();
     let tokens = unit.tokens.list.as_slice();
     let nodes = unit.nodes.as_slice();
     let items = unit.items.as_slice();
-    levels(alloc, file, tokens, nodes, items, names, structures, mains)
+    levels(alloc, file, tokens, nodes, items, &reach, structures, mains)
 }

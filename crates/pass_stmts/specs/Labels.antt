@@ -1,6 +1,7 @@
 -- Labels (C11 6.8.1) that no `goto` of their function names (6.8.6.1).
-use Rattle.std.specs.Prelude.{ℕ, ◌+◌, Bool, ◌&&◌, ◌==◌, List, [], ◌∷◌, ◌++◌, length, slice_index_or, if◌then◌else◌}
+use Rattle.std.specs.Prelude.{◌≡◌, ℕ, ◌+◌, Bool, ◌&&◌, ◌==◌, List, [], ◌∷◌, ◌++◌, length, slice_index_or, if◌then◌else◌}
 use Rattle.std.specs.List.{list_any}
+use Rattle.std.specs.Borrow.{Bor}
 use Rattle.std.specs.Str.{bytes_eq}
 use Rattle.cr_tokens.specs.declared.token.Token.{Token}
 use Rattle.cr_syntax.specs.declared.node.Kind.{Kind}
@@ -40,6 +41,15 @@ jumps_of nodes functions = gathered (λ k. jump_by (node_at nodes k).kind (funct
 -- a `goto` names the label that this token spells, in a function of this number; a label has its whole function for a scope (6.2.1p3)
 abbrev pub names_label : List ℕ → List Token → ℕ → ℕ → Jump → Bool
 names_label file tokens function label jump = (jump.function == function) && bytes_eq (spelling_at file tokens jump.label) (spelling_at file tokens label)
+
+-- labels by the numbers of their functions and their bytes
+abbrev pub same_label : ℕ × Bor (List ℕ) → ℕ × Bor (List ℕ) → Bool
+same_label a b = (a.0 == b.0) && bytes_eq a.1.now b.1.now
+
+-- a set of labels has those that some `goto` names
+abbrev pub AreNamed : List ℕ → List Token → List Jump → (ℕ × Bor (List ℕ) → Bool) → Type 0
+AreNamed file tokens jumps named = (label : ℕ × Bor (List ℕ))
+    → named label ≡ list_any (λ jump. (jump.function == label.0) && bytes_eq (spelling_at file tokens jump.label) label.1.now) jumps
 
 -- a label and its `:` go, counted by the labelled statement
 abbrev pub label_goes : List Token → Node → Counted

@@ -1,9 +1,10 @@
 // The level of pass s for labels.
 ghost use Rattle.std.specs.Prelude.{◌≡◌, ◌++◌, length, IfOk, OnOk};
+ghost use Rattle.std.specs.HashSet.{contains};
 ghost use Rattle.std.specs.List.{list_any};
 ghost use Rattle.pass_levels.specs.Level.{level_of};
 ghost use Rattle.pass_levels.specs.Nodes.{node_at};
-ghost use Rattle.pass_stmts.specs.Labels.{counting, function_at, functions_of, jump_by, jumps_of, label_goes, labels_give, names_label};
+ghost use Rattle.pass_stmts.specs.Labels.{AreNamed, counting, function_at, functions_of, jump_by, jumps_of, label_goes, labels_give, names_label, same_label};
 
 use cr_rows::Row;
 use cr_syntax::{Kind, Node};
@@ -11,6 +12,7 @@ use cr_tokens::Token;
 use pass_edit::Edits;
 use pass_levels::{Counted, Level, gone, kind_at, list, span_at, spelling_at};
 use std::alloc::{AllocError, Global};
+use std::collections::HashSet;
 
 /// What a `goto` names: the token of a label, and the function in which it stands, by its number.
 #[derive(Clone, Copy, Drop)]
@@ -19,17 +21,19 @@ pub struct Jump {
     pub label: usize,
 }
 
-// Each label that no `goto` of its function names goes.
+// Each label that no `goto` of its function names goes. What they name is looked for in a set.
 #[derive(Drop)]
-struct LabelsGo<'a> {
+struct LabelsGo<'a, 'b> {
     file: &'a [u8],
-    tokens: &'a [Token],
-    nodes: &'a [Node],
-    functions: &'a [u32],
-    jumps: &'a [Jump],
+    tokens: &'b [Token],
+    nodes: &'b [Node],
+    functions: &'b [u32],
+    jumps: &'b [Jump],
+    named: &'b HashSet<(u32, &'a [u8])>,
+    ghost set: { AreNamed file.now tokens.now jumps.now (contains same_label named.now) },
 }
 
-impl Level for LabelsGo<'_> {
+impl Level for LabelsGo<'_, '_> {
     ghost gives = { λ l k. labels_give l.file.now l.tokens.now l.nodes.now l.functions.now l.jumps.now k };
 
     fn give(&self, alloc: Global, node: usize, all: &mut Vec<Counted>) -> Result<(), AllocError> {
@@ -52,13 +56,7 @@ fn put_label(
 {
     let (first, _) = span_at(source.nodes, node);
     let function = function_at(source.functions, node);
-    if !is_named(
-        source.file,
-        source.tokens,
-        source.jumps,
-        function,
-        first as usize,
-    ) {
+    if !is_named(source, function, first as usize) {
         all.push(label_goes(alloc, source.tokens, source.nodes, node)?)?;
     }
     Ok(())
@@ -78,22 +76,27 @@ fn label_goes(
     Ok(Counted { first, last, edit })
 }
 
-fn is_named(file: &[u8], tokens: &[Token], jumps: &[Jump], function: u32, label: usize) -> bool
-    ensures { result ≡ list_any (names_label file.now tokens.now function label) jumps.now }
+fn is_named(source: &LabelsGo, function: u32, label: usize) -> bool
+    ensures { result ≡ list_any (names_label source.now.file.now source.now.tokens.now function label) source.now.jumps.now }
 {
-    for jump in jumps {
-        if names_label(file, tokens, function, label, *jump) {
-            return true;
-        }
-    }
-    false
+    let bytes = spelling_at(source.file, source.tokens, label);
+    source.named.contains(&(function, bytes))
 }
 
-fn names_label(file: &[u8], tokens: &[Token], function: u32, label: usize, jump: Jump) -> bool
-    ensures { result ≡ names_label file.now tokens.now function label jump }
+// What all `goto`s name.
+fn named_by<'a>(
+    alloc: Global,
+    file: &'a [u8],
+    tokens: &[Token],
+    jumps: &[Jump],
+) -> Result<HashSet<(u32, &'a [u8])>, AllocError>
+    ensures { IfOk result (λ named. AreNamed file.now tokens.now jumps.now (contains same_label named)) }
 {
-    jump.function == function
-        && spelling_at(file, tokens, jump.label) == spelling_at(file, tokens, label)
+    let mut named = HashSet::new(alloc);
+    for jump in jumps {
+        named.insert((jump.function, spelling_at(file, tokens, jump.label)))?;
+    }
+    Ok(named)
 }
 
 fn function_at(functions: &[u32], node: usize) -> u32
@@ -167,6 +170,7 @@ pub fn labels_go(
 {
     let functions = functions_of(alloc, nodes)?;
     let jumps = jumps_of(alloc, nodes, functions.as_slice())?;
+    let named = named_by(alloc, file, tokens, jumps.as_slice())?;
     list(
         alloc,
         nodes.len(),
@@ -176,6 +180,7 @@ pub fn labels_go(
             nodes,
             functions: functions.as_slice(),
             jumps: jumps.as_slice(),
+            named: &named,
         },
     )
 }

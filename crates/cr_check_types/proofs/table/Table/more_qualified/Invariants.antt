@@ -1,7 +1,7 @@
 use Rattle.std.proofs.Common.{◌≡◌, ◌<◌, length}
 use Rattle.cr_check_types.specs.Types.{type_at, Grows}
 use Rattle.cr_check_types.specs.Relations.{turned, qualified}
-use Rattle.cr_check_types.proofs.table.Table.qualified.Given as goal
+use Rattle.cr_check_types.proofs.table.Table.more_qualified.Given as goal
 
 abbrev pub invariant-loop-below : goal.invariant-loop-below
 invariant-loop-below l = record {
