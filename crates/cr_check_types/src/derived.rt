@@ -51,9 +51,7 @@ impl Table {
         ensures made { IfOk result (λ r. IsRow self.new r (qualified constant volatile (type_at self.old row))) }
         ensures grows { OnOk result (Grows self.old self.new) }
     {
-        if constant {
-            self.more_qualified(row, constant, volatile)
-        } else if volatile {
+        if constant || volatile {
             self.more_qualified(row, constant, volatile)
         } else {
             Ok(row)
