@@ -20,7 +20,7 @@ use Rattle.cr_meaning_typing.specs.Typed.Typing.{is_expression}
 use Rattle.cr_meaning_declarations.specs.Declared.Files.{IsUnitOfFile}
 use Rattle.cr_meaning_declarations.proofs.DeclaredLemmas.Files.{has_unit}
 use Rattle.cr_meaning_typing.specs.Calls.Calls.{IsParameter, IsCalled}
-use Rattle.cr_meaning_initialisation.specs.Called.Laws.{IsMeant, IsFitting}
+use Rattle.cr_meaning_objects.specs.Called.Laws.{IsMeant, IsFitting}
 use Rattle.cr_meaning_typing.specs.Sorts.Table.{result_of, expression_sort, exits_at, sort_at, sorts_in}
 use Rattle.cr_meaning_files.specs.Reached.{is_definition}
 use Rattle.cr_meaning_files.specs.Files.{judgement_of}

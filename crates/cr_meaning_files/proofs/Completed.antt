@@ -27,8 +27,8 @@ use Rattle.cr_meaning_operations.specs.Shapes.{cells_of, cells_with, structure_c
 use Rattle.cr_meaning_operations.specs.Operations.{kind_if, kind_at, parts_at}
 use Rattle.cr_meaning_declarations.specs.Declared.Files.{IsUnitOfFile}
 use Rattle.cr_meaning_declarations.proofs.DeclaredLemmas.Nodes.{of_unit}
-use Rattle.cr_meaning_initialisation.specs.Initialised.Parts.{Every, is_aggregate, AreCells}
-use Rattle.cr_meaning_initialisation.specs.Initialised.Asked.{HaveParts}
+use Rattle.cr_meaning_objects.specs.Initialised.Parts.{Every, is_aggregate, AreCells}
+use Rattle.cr_meaning_objects.specs.Initialised.Asked.{HaveParts}
 use Rattle.cr_meaning_files.specs.Reached.{is_list as is_list_kind}
 use Rattle.cr_meaning_files.specs.Structures.{IsWhole, AreMembersWhole}
 use Rattle.cr_meaning_files.proofs.Cells.{exact, elements_few}

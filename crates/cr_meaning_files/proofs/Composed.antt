@@ -13,13 +13,13 @@ use Rattle.cr_meaning_operations.specs.Operations.{kind_if, name_of, entity_of, 
 use Rattle.cr_meaning_types.specs.Known.Shaped.{is_filled}
 use Rattle.cr_meaning_types.proofs.KnownLemmas.Declaring.{there_is}
 use Rattle.cr_meaning_declarations.specs.Declared.Files.{IsUnitOfFile}
-use Rattle.cr_meaning_composites.proofs.ChainedLemmas.Known.{there}
-use Rattle.cr_meaning_composites.specs.Composed.Laws.{Becomes, IsObject}
-use Rattle.cr_meaning_composites.proofs.ComposedLemmas.Named.{initialised, firsts, objects_named}
-use Rattle.cr_meaning_composites.proofs.ComposedLemmas.Owned.{own}
-use Rattle.cr_meaning_composites.proofs.ComposedLemmas.Planned.{planned}
-use Rattle.cr_meaning_initialisation.specs.Initialised.Composites.{IsSized}
-use Rattle.cr_meaning_initialisation.proofs.InitialisedLemmas.Composites.{composite_kept}
+use Rattle.cr_meaning_objects.proofs.ChainedLemmas.Known.{there}
+use Rattle.cr_meaning_objects.specs.Composed.Laws.{Becomes, IsObject}
+use Rattle.cr_meaning_objects.proofs.ComposedLemmas.Named.{initialised, firsts, objects_named}
+use Rattle.cr_meaning_objects.proofs.ComposedLemmas.Owned.{own}
+use Rattle.cr_meaning_objects.proofs.ComposedLemmas.Planned.{planned}
+use Rattle.cr_meaning_objects.specs.Initialised.Composites.{IsSized}
+use Rattle.cr_meaning_objects.proofs.InitialisedLemmas.Composites.{composite_kept}
 use Rattle.cr_meaning_files.specs.Structures.{IsWhole}
 use Rattle.cr_meaning_references.proofs.TreesLemmas.Shaped.{shaped}
 

@@ -24,7 +24,7 @@ use Rattle.cr_meaning_files.specs.Structures.{AreMembersWhole}
 use Rattle.cr_meaning_files.proofs.Made.{complete_whole}
 use Rattle.cr_meaning_references.proofs.TreesLemmas.Shaped.{surrounded, shaped}
 use Rattle.cr_meaning_references.proofs.TreesLemmas.Sighted.{sighted}
-use Rattle.cr_meaning_initialisation.proofs.CalledLemmas.Objects.{at_map as image}
+use Rattle.cr_meaning_objects.proofs.CalledLemmas.Objects.{at_map as image}
 
 -- a type is complete, unless it is an array of unknown size
 sized_complete : (complete : Qualified → Bool) (type : Qualified) → has_value type ≡ true → is_open type ≡ false → whole_object complete type ≡ true → complete type ≡ true

@@ -62,10 +62,10 @@ use Rattle.cr_meaning_declarations.proofs.DeclaredLemmas.Once.{place_init as ini
 use Rattle.cr_meaning_references.proofs.ToldLemmas.Names.{last_is, initial}
 use Rattle.cr_meaning_references.proofs.ToldLemmas.Orderly.{apart, named_within}
 use Rattle.cr_meaning_references.proofs.TreesLemmas.Shaped.{shaped}
-use Rattle.cr_meaning_composites.specs.Chained.Laws.{DeclaresFunction}
-use Rattle.cr_meaning_composites.proofs.ChainedLemmas.Known.{is_typing, holds, nodes_are}
-use Rattle.cr_meaning_composites.proofs.ChainedLemmas.Chained.{no_init}
-use Rattle.cr_meaning_composites.proofs.ParametersLemmas.Parameters.{parameter_place}
+use Rattle.cr_meaning_objects.specs.Chained.Laws.{DeclaresFunction}
+use Rattle.cr_meaning_objects.proofs.ChainedLemmas.Known.{is_typing, holds, nodes_are}
+use Rattle.cr_meaning_objects.proofs.ChainedLemmas.Chained.{no_init}
+use Rattle.cr_meaning_objects.proofs.ParametersLemmas.Parameters.{parameter_place}
 use Rattle.cr_meaning_files.specs.Meant as Laws
 use Rattle.cr_meaning_files.specs.Meant.{SeesFunction}
 

@@ -45,17 +45,17 @@ use Rattle.cr_meaning_declarations.proofs.DeclaredLemmas.Bodies.{listed_at, IsTh
 use Rattle.cr_meaning_declarations.specs.Linked.Laws.{DeclaresValue}
 use Rattle.cr_meaning_declarations.proofs.LinkedLemmas.Sorts.{values_share}
 use Rattle.cr_meaning_declarations.proofs.DeclaredLemmas.Files.{has_unit}
-use Rattle.cr_meaning_composites.specs.Chained.Laws.{DeclaresFunction}
-use Rattle.cr_meaning_composites.proofs.ChainedLemmas.Words.{value_is}
-use Rattle.cr_meaning_composites.proofs.ChainedLemmas.Known.{there, owned, function_plain}
-use Rattle.cr_meaning_composites.proofs.ChainedLemmas.Chained as chained
-use Rattle.cr_meaning_composites.proofs.ObjectsLemmas.Declaring.{IsLast, last_there, entity_of_declared, few_of, token_low}
-use Rattle.cr_meaning_composites.proofs.ObjectsLemmas.Objects.{follows_at}
-use Rattle.cr_meaning_composites.proofs.KeptLemmas.Defined.{whole_by, entity_by, IsDefined, defined_there, IsFirst, first_node}
-use Rattle.cr_meaning_composites.proofs.KeptLemmas.Kept.{sort_of}
-use Rattle.cr_meaning_composites.proofs.ObjectsLemmas.Statics.{declarer_is}
+use Rattle.cr_meaning_objects.specs.Chained.Laws.{DeclaresFunction}
+use Rattle.cr_meaning_objects.proofs.ChainedLemmas.Words.{value_is}
+use Rattle.cr_meaning_objects.proofs.ChainedLemmas.Known.{there, owned, function_plain}
+use Rattle.cr_meaning_objects.proofs.ChainedLemmas.Chained as chained
+use Rattle.cr_meaning_objects.proofs.ObjectsLemmas.Declaring.{IsLast, last_there, entity_of_declared, few_of, token_low}
+use Rattle.cr_meaning_objects.proofs.ObjectsLemmas.Objects.{follows_at}
+use Rattle.cr_meaning_objects.proofs.KeptLemmas.Defined.{whole_by, entity_by, IsDefined, defined_there, IsFirst, first_node}
+use Rattle.cr_meaning_objects.proofs.KeptLemmas.Kept.{sort_of}
+use Rattle.cr_meaning_objects.proofs.ObjectsLemmas.Statics.{declarer_is}
 use Rattle.cr_meaning_files.proofs.Names.{declare}
-use Rattle.cr_meaning_initialisation.specs.Called.Laws.{IsMeant}
+use Rattle.cr_meaning_objects.specs.Called.Laws.{IsMeant}
 use Rattle.cr_meaning_files.specs.Meant as Laws
 use Rattle.cr_meaning_files.specs.Meant.{SeesFunction}
 use Rattle.cr_meaning_files.proofs.Declarers.{seen}

@@ -39,19 +39,19 @@ use Rattle.cr_meaning_declarations.proofs.DeclaredLemmas.Bodies.{node_of}
 use Rattle.cr_meaning_typing.specs.Judged.Judged.{seen_in}
 use Rattle.cr_meaning_declarations.proofs.DeclaredLemmas.Files.{has_unit}
 use Rattle.cr_meaning_references.proofs.ToldLemmas.Orderly.{apart}
-use Rattle.cr_meaning_composites.proofs.MainsLemmas.Defined.{At, is_told, telling, value_or_type}
-use Rattle.cr_meaning_composites.specs.Objects.Laws.{DeclaresObject}
-use Rattle.cr_meaning_composites.proofs.ObjectsLemmas.Objects.{value_there}
-use Rattle.cr_meaning_composites.proofs.ObjectsLemmas.Statics.{no_constant, enumerator_nameless}
-use Rattle.cr_meaning_composites.specs.Kept.Laws.{SeesObject}
-use Rattle.cr_meaning_composites.proofs.KeptLemmas.Kept.{keep}
-use Rattle.cr_meaning_composites.proofs.KeptLemmas.Seen.{see}
+use Rattle.cr_meaning_objects.proofs.MainsLemmas.Defined.{At, is_told, telling, value_or_type}
+use Rattle.cr_meaning_objects.specs.Objects.Laws.{DeclaresObject}
+use Rattle.cr_meaning_objects.proofs.ObjectsLemmas.Objects.{value_there}
+use Rattle.cr_meaning_objects.proofs.ObjectsLemmas.Statics.{no_constant, enumerator_nameless}
+use Rattle.cr_meaning_objects.specs.Kept.Laws.{SeesObject}
+use Rattle.cr_meaning_objects.proofs.KeptLemmas.Kept.{keep}
+use Rattle.cr_meaning_objects.proofs.KeptLemmas.Seen.{see}
 use Rattle.cr_meaning_files.specs.Celled as Laws
 use Rattle.cr_meaning_files.specs.Celled.{SeesDeclared, SeesParameter}
 use Rattle.cr_meaning_files.proofs.Meant.{before_declared, mean}
 use Rattle.cr_meaning_files.proofs.Names as names
 use Rattle.cr_meaning_files.proofs.Types.{ruled_at}
-use Rattle.cr_meaning_initialisation.proofs.CalledLemmas.Meant.{declares_kind as external_declares}
+use Rattle.cr_meaning_objects.proofs.CalledLemmas.Meant.{declares_kind as external_declares}
 
 -- ---- what declares an object
 

@@ -12,7 +12,7 @@ use Rattle.cr_typed.specs.Typed.{MOST_CELLS}
 use Rattle.cr_meaning_operations.specs.Shapes.{type_of_node, named_type, cells_of}
 use Rattle.cr_meaning_operations.specs.Operations.{entity_of}
 use Rattle.cr_meaning_typing.specs.Typed.Placed.{IsObject}
-use Rattle.cr_meaning_initialisation.specs.Initialised.Composites.{IsSized}
+use Rattle.cr_meaning_objects.specs.Initialised.Composites.{IsSized}
 use Rattle.cr_meaning_files.specs.Celled as Laws
 use Rattle.cr_meaning_files.specs.Celled.{HasSizedElements}
 use Rattle.cr_meaning_files.proofs.Cells.{exact, less_exact, multiple}

@@ -32,11 +32,11 @@ use Rattle.cr_meaning_typing.specs.Typed.Typing.{is_expression}
 use Rattle.cr_meaning_types.specs.Known.Shaped.{fits}
 use Rattle.cr_meaning_types.proofs.KnownLemmas.Declaring.{declarator_holds, in_place}
 use Rattle.cr_meaning_types.proofs.KnownLemmas.Reading.{row}
-use Rattle.cr_meaning_composites.proofs.ChainedLemmas.Known.{definitions}
-use Rattle.cr_meaning_composites.proofs.ObjectsLemmas.Alone.{value_made}
-use Rattle.cr_meaning_composites.proofs.ObjectsLemmas.Declaring.{IsLast, last_there}
-use Rattle.cr_meaning_composites.proofs.ObjectsLemmas.Statics.{no_constant, object_if, only_initialised, last_below}
-use Rattle.cr_meaning_composites.proofs.ParametersLemmas.Parameters.{parameter_place as place_parameter}
+use Rattle.cr_meaning_objects.proofs.ChainedLemmas.Known.{definitions}
+use Rattle.cr_meaning_objects.proofs.ObjectsLemmas.Alone.{value_made}
+use Rattle.cr_meaning_objects.proofs.ObjectsLemmas.Declaring.{IsLast, last_there}
+use Rattle.cr_meaning_objects.proofs.ObjectsLemmas.Statics.{no_constant, object_if, only_initialised, last_below}
+use Rattle.cr_meaning_objects.proofs.ParametersLemmas.Parameters.{parameter_place as place_parameter}
 use Rattle.cr_meaning_files.proofs.Lists.{list_counts}
 use Rattle.cr_meaning_files.proofs.Parameters.{found_below, unit_parts, parameters_are, named_locally}
 use Rattle.cr_meaning_files.proofs.Lasting.{static_seen}
@@ -92,7 +92,7 @@ use Rattle.cr_meaning_files.proofs.Whole.{definition_counts as definition_most, 
 use Rattle.cr_meaning_files.proofs.Functions.{begins_function}
 use Rattle.cr_meaning_files.proofs.Named.{only_definition}
 use Rattle.cr_scopes_visibility.proofs.AloneLemmas.First.{number_same}
-use Rattle.cr_meaning_initialisation.proofs.CalledLemmas.Fitting.{function_holds}
+use Rattle.cr_meaning_objects.proofs.CalledLemmas.Fitting.{function_holds}
 
 -- ---- durations (6.2.4)
 

@@ -15,7 +15,7 @@ use Rattle.cr_scopes.specs.Resolved.{space_of, space_number, declares, told_if, 
 use Rattle.cr_scopes_visibility.proofs.AloneLemmas.First.{one_number}
 use Rattle.cr_scopes_bindings.specs.Entities.{entity_at}
 use Rattle.cr_scopes_linkage.proofs.MeantLemmas.Linked.{first_is}
-use Rattle.cr_meaning_composites.proofs.KeptLemmas.Uses.{first_of_site}
+use Rattle.cr_meaning_objects.proofs.KeptLemmas.Uses.{first_of_site}
 
 module _ (name : ℕ → ℕ) where
   begun_name : (past : List Event) (t : ℕ) (r : Role) → name (begun name past t r).first ≡ name t

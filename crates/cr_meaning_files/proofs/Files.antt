@@ -68,13 +68,13 @@ use Rattle.cr_meaning_files.proofs.Calls.{call_names, call_clear, text_there}
 use Rattle.cr_meaning_files.proofs.Library.{library_called}
 use Rattle.cr_meaning_files.proofs.Results.{function_gives, returned_given}
 use Rattle.cr_meaning_files.proofs.Followed.{followed_type}
-use Rattle.cr_meaning_initialisation.specs.Called.Laws.{IsMeant}
+use Rattle.cr_meaning_objects.specs.Called.Laws.{IsMeant}
 use Rattle.cr_meaning_files.proofs.Objects.{has_cells, names_cells}
 use Rattle.cr_meaning_files.proofs.Defined.{define}
-use Rattle.cr_meaning_initialisation.proofs.CalledLemmas.Fitting.{fitting}
-use Rattle.cr_meaning_initialisation.proofs.CalledLemmas.Objects.{objects as parameters_taken}
-use Rattle.cr_meaning_initialisation.proofs.ClosedLemmas.Closed.{calls_closed}
-use Rattle.cr_meaning_composites.proofs.ObjectsLemmas.Statics.{static_first}
+use Rattle.cr_meaning_objects.proofs.CalledLemmas.Fitting.{fitting}
+use Rattle.cr_meaning_objects.proofs.CalledLemmas.Objects.{objects as parameters_taken}
+use Rattle.cr_meaning_objects.proofs.ClosedLemmas.Closed.{calls_closed}
+use Rattle.cr_meaning_objects.proofs.ObjectsLemmas.Statics.{static_first}
 use Rattle.cr_meaning_files.proofs.Declared.{types_known, read, members_whole}
 use Rattle.cr_meaning_files.proofs.Returns.{result}
 use Rattle.cr_meaning_files.proofs.Members.{chosen_type, member_chosen, pointed_chosen}

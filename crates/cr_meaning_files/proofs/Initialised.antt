@@ -46,15 +46,15 @@ use Rattle.cr_meaning_declarations.proofs.DeclaredLemmas.Files.{tree_of}
 use Rattle.cr_meaning_declarations.proofs.DeclaredLemmas.Plans.{of_initialised}
 use Rattle.cr_meaning_typing.specs.Expressions.Used.{beside_sort, used_sort}
 use Rattle.cr_meaning_typing.specs.Sorts.Table.{Judgement, size_at, exits_at, expression_sort, sort_at, sorts_in}
-use Rattle.cr_meaning_initialisation.specs.Initialised.Parts.{IsPart, IsPlaced}
-use Rattle.cr_meaning_initialisation.specs.Initialised.Asked.{HaveBytes}
-use Rattle.cr_meaning_initialisation.specs.Initialised.Taken.{IsTaken, IsHeld, IsLine}
-use Rattle.cr_meaning_initialisation.proofs.InitialisedLemmas.Parts.{set_parts}
-use Rattle.cr_meaning_initialisation.proofs.InitialisedLemmas.Once.{put_once}
-use Rattle.cr_meaning_initialisation.proofs.InitialisedLemmas.Asked.{asked_for}
-use Rattle.cr_meaning_initialisation.proofs.InitialisedLemmas.Taken.{taken}
-use Rattle.cr_meaning_initialisation.proofs.InitialisedLemmas.Lines.{part_cells, lines as set_lines}
-use Rattle.cr_meaning_initialisation.proofs.CalledLemmas.Objects.{at_map as image}
+use Rattle.cr_meaning_objects.specs.Initialised.Parts.{IsPart, IsPlaced}
+use Rattle.cr_meaning_objects.specs.Initialised.Asked.{HaveBytes}
+use Rattle.cr_meaning_objects.specs.Initialised.Taken.{IsTaken, IsHeld, IsLine}
+use Rattle.cr_meaning_objects.proofs.InitialisedLemmas.Parts.{set_parts}
+use Rattle.cr_meaning_objects.proofs.InitialisedLemmas.Once.{put_once}
+use Rattle.cr_meaning_objects.proofs.InitialisedLemmas.Asked.{asked_for}
+use Rattle.cr_meaning_objects.proofs.InitialisedLemmas.Taken.{taken}
+use Rattle.cr_meaning_objects.proofs.InitialisedLemmas.Lines.{part_cells, lines as set_lines}
+use Rattle.cr_meaning_objects.proofs.CalledLemmas.Objects.{at_map as image}
 use Rattle.cr_meaning_typing.specs.Whole.Statements.{IsInitialised}
 use Rattle.cr_meaning_files.specs.Reached.{is_list, is_listing}
 use Rattle.cr_meaning_files.specs.Seen.{sees}

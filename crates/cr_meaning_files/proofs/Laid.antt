@@ -24,7 +24,7 @@ use Rattle.cr_meaning_declarations.proofs.NamesLemmas.Parents.{IsPartOf, one_par
 use Rattle.cr_meaning_declarations.specs.Declared.Files.{IsUnitOfFile}
 use Rattle.cr_meaning_declarations.proofs.DeclaredLemmas.Nodes.{of_unit}
 use Rattle.cr_meaning_typing.specs.Sorts.Founded.{IsOperand, AreLaidOut}
-use Rattle.cr_meaning_initialisation.proofs.InitialisedLemmas.Twice.{one_place}
+use Rattle.cr_meaning_objects.proofs.InitialisedLemmas.Twice.{one_place}
 use Rattle.cr_meaning_files.specs.Reached.{is_list, is_listing}
 use Rattle.cr_meaning_files.specs.Files.{judgement_of}
 use Rattle.cr_meaning_references.proofs.TreesLemmas.Grammar.{part_in, is_of}

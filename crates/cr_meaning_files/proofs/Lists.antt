@@ -51,7 +51,7 @@ use Rattle.cr_meaning_files.specs.Seen.{sees}
 use Rattle.cr_meaning_references.proofs.TreesLemmas.Grammar.{Stands, part_in}
 use Rattle.cr_meaning_files.proofs.Living.{lives_is}
 use Rattle.cr_meaning_references.proofs.TreesLemmas.Tree.{HasPart, has_part, as_part, at_most}
-use Rattle.cr_meaning_initialisation.proofs.InitialisedLemmas.Twice.{one_place}
+use Rattle.cr_meaning_objects.proofs.InitialisedLemmas.Twice.{one_place}
 use Rattle.cr_meaning_files.proofs.Mains.{body_only}
 use Rattle.cr_meaning_files.proofs.Named.{plain_part}
 

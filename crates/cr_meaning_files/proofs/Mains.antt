@@ -26,7 +26,7 @@ use Rattle.cr_meaning_typing.specs.Sorts.Table.{labels_of, result_of, exits_at}
 use Rattle.cr_meaning_declarations.specs.Declared.Files.{IsUnitOfFile}
 use Rattle.cr_meaning_declarations.proofs.DeclaredLemmas.Files.{has_unit}
 use Rattle.cr_meaning_declarations.proofs.LastingLemmas.Firsts.{name_here}
-use Rattle.cr_meaning_composites.proofs.MainsLemmas.Mains.{main_is}
+use Rattle.cr_meaning_objects.proofs.MainsLemmas.Mains.{main_is}
 use Rattle.cr_meaning_typing.proofs.WholeLemmas.Whole.{is_initialiser}
 use Rattle.cr_meaning_typing.specs.Whole.Statements.{is_statement}
 use Rattle.cr_meaning_typing.specs.Sorts.Founded.{is_followed}

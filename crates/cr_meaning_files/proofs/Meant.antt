@@ -42,8 +42,8 @@ use Rattle.cr_meaning_declarations.proofs.LinkedLemmas.Owned.{HasOwn, own_there,
 use Rattle.cr_meaning_declarations.proofs.LinkedLemmas.Sorts.{one_sort}
 use Rattle.cr_meaning_declarations.proofs.DeclaredLemmas.Files.{has_unit}
 use Rattle.cr_meaning_references.proofs.ToldLemmas.Orderly.{apart}
-use Rattle.cr_meaning_composites.proofs.MainsLemmas.Defined.{value_plain, never_past, each, values}
-use Rattle.cr_meaning_composites.proofs.ObjectsLemmas.Declaring.{entity_of_declared}
+use Rattle.cr_meaning_objects.proofs.MainsLemmas.Defined.{value_plain, never_past, each, values}
+use Rattle.cr_meaning_objects.proofs.ObjectsLemmas.Declaring.{entity_of_declared}
 use Rattle.cr_meaning_files.specs.Celled as Laws
 use Rattle.cr_meaning_files.specs.Celled.{IsSteady}
 use Rattle.cr_meaning_files.proofs.Visible.{counted, have}

@@ -27,9 +27,9 @@ use Rattle.cr_meaning_declarations.specs.Declared.Files.{IsUnitOfFile}
 use Rattle.cr_meaning_declarations.proofs.DeclaredLemmas.Bodies.{listed_at}
 use Rattle.cr_meaning_declarations.proofs.LinkedLemmas.Owned.{HasOwn, own_there}
 use Rattle.cr_meaning_declarations.proofs.DeclaredLemmas.Files.{has_unit}
-use Rattle.cr_meaning_composites.specs.Composed.Laws.{IsObject}
-use Rattle.cr_meaning_composites.proofs.ObjectsLemmas.Declaring.{entity_of_declared}
-use Rattle.cr_meaning_composites.proofs.KeptLemmas.Defined.{no_goto as mention_plain}
+use Rattle.cr_meaning_objects.specs.Composed.Laws.{IsObject}
+use Rattle.cr_meaning_objects.proofs.ObjectsLemmas.Declaring.{entity_of_declared}
+use Rattle.cr_meaning_objects.proofs.KeptLemmas.Defined.{no_goto as mention_plain}
 use Rattle.cr_meaning_files.specs.Celled.{SeesDeclared}
 use Rattle.cr_meaning_files.specs.Local.{is_object_by}
 use Rattle.cr_meaning_files.specs.Structures.{AreMembersWhole}

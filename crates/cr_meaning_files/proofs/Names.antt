@@ -36,9 +36,9 @@ use Rattle.cr_meaning_declarations.proofs.LinkedLemmas.Owned.{own_there}
 use Rattle.cr_meaning_declarations.proofs.DeclaredLemmas.Files.{has_unit}
 use Rattle.cr_meaning_references.proofs.ToldLemmas.Orderly.{apart, named_within}
 use Rattle.cr_meaning_references.proofs.ToldLemmas.Names.{last_is}
-use Rattle.cr_meaning_composites.proofs.ObjectsLemmas.Alone.{linked_or_alone}
-use Rattle.cr_meaning_composites.proofs.ObjectsLemmas.Declaring.{is_silent, never_told, declares_entity, token_low}
-use Rattle.cr_meaning_composites.proofs.ObjectsLemmas.Statics.{role_speaks, use_same}
+use Rattle.cr_meaning_objects.proofs.ObjectsLemmas.Alone.{linked_or_alone}
+use Rattle.cr_meaning_objects.proofs.ObjectsLemmas.Declaring.{is_silent, never_told, declares_entity, token_low}
+use Rattle.cr_meaning_objects.proofs.ObjectsLemmas.Statics.{role_speaks, use_same}
 use Rattle.cr_meaning_files.specs.Celled as Laws
 use Rattle.cr_meaning_files.specs.Celled.{IsSeen}
 use Rattle.cr_meaning_files.proofs.Visible.{stand}

@@ -57,13 +57,13 @@ use Rattle.cr_meaning_declarations.proofs.DeclaredLemmas.Bodies.{listed_at, last
 use Rattle.cr_meaning_declarations.proofs.DeclaredLemmas.Files.{has_unit, tree_of}
 use Rattle.cr_meaning_declarations.proofs.DeclaredLemmas.Nodes.{of_unit}
 use Rattle.cr_meaning_references.proofs.TypedefsLemmas.Files.{are_seen}
-use Rattle.cr_meaning_composites.proofs.ChainedLemmas.Known.{there, words, HasWords, owned, IsOwned, definition_declares}
-use Rattle.cr_meaning_composites.proofs.ObjectsLemmas.Alone.{Stands, in_file, in_block, in_clause, stands_there}
-use Rattle.cr_meaning_composites.proofs.KeptLemmas.Kept.{duration_at, duration_is}
+use Rattle.cr_meaning_objects.proofs.ChainedLemmas.Known.{there, words, HasWords, owned, IsOwned, definition_declares}
+use Rattle.cr_meaning_objects.proofs.ObjectsLemmas.Alone.{Stands, in_file, in_block, in_clause, stands_there}
+use Rattle.cr_meaning_objects.proofs.KeptLemmas.Kept.{duration_at, duration_is}
 use Rattle.cr_meaning_files.specs.Celled.{HasSizedElements}
 use Rattle.cr_meaning_files.proofs.Elements.{celled}
-use Rattle.cr_meaning_composites.specs.Composed.Laws.{Becomes, IsObject}
-use Rattle.cr_meaning_composites.proofs.ComposedLemmas.Named.{complete, initialised, firsts, objects_named}
+use Rattle.cr_meaning_objects.specs.Composed.Laws.{Becomes, IsObject}
+use Rattle.cr_meaning_objects.proofs.ComposedLemmas.Named.{complete, initialised, firsts, objects_named}
 use Rattle.cr_meaning_types.specs.Fitting.Bounded.{IsBounded, Declares}
 use Rattle.cr_meaning_types.proofs.FittingLemmas.Names.{declares_all}
 use Rattle.cr_meaning_files.specs.Local.{is_object_by}

@@ -21,11 +21,11 @@ use Rattle.cr_typed.specs.declared.typed.Typed.{Typed}
 use Rattle.cr_meaning_declarations.proofs.NamesLemmas.Leaves.{no_tag, no_use}
 use Rattle.cr_meaning_declarations.proofs.NamesLemmas.Parents.{IsPartOf, part_below, one_parent, no_item, whole_is}
 use Rattle.cr_meaning_references.proofs.ConstantLemmas.Once.{risen}
-use Rattle.cr_meaning_composites.proofs.KeptLemmas.Defined.{used_same}
+use Rattle.cr_meaning_objects.proofs.KeptLemmas.Defined.{used_same}
 use Rattle.cr_meaning_declarations.specs.Declared.Files.{IsUnitOfFile}
 use Rattle.cr_meaning_declarations.proofs.LinkedLemmas.Owned.{HasOwn, own_there, part_of, in_init, alone as in_no_other, one_declaration}
 use Rattle.cr_meaning_declarations.proofs.DeclaredLemmas.Files.{has_unit}
-use Rattle.cr_meaning_composites.proofs.MainsLemmas.Defined.{no_parameter, no_enumerator}
+use Rattle.cr_meaning_objects.proofs.MainsLemmas.Defined.{no_parameter, no_enumerator}
 use Rattle.cr_meaning_files.specs.Celled as Laws
 
 -- ---- kinds

@@ -47,7 +47,7 @@ use Rattle.cr_meaning_files.specs.Seen.{entered_for, is_one_of, finds, sees}
 use Rattle.cr_meaning_files.specs.Local.{is_local, is_parameter_below, is_parameter, is_own_parameter, is_early, is_named_locally}
 use Rattle.cr_meaning_files.proofs.Seen.{as_seen, finds_entered, finds_outside}
 use Rattle.cr_meaning_references.proofs.TreesLemmas.Tree.{HasPart, has_part, as_part}
-use Rattle.cr_meaning_initialisation.proofs.InitialisedLemmas.Twice.{one_place}
+use Rattle.cr_meaning_objects.proofs.InitialisedLemmas.Twice.{one_place}
 use Rattle.cr_meaning_files.proofs.Mains.{body_at, block_at}
 use Rattle.cr_meaning_files.proofs.Sight.{among_passed, parameters_entered}
 use Rattle.cr_meaning_files.proofs.Named.{any_among, plain_part, finds_local}

@@ -12,7 +12,7 @@ use Rattle.cr_check_expressions.specs.Known.{Signature, Source, a_function}
 use Rattle.cr_check_expressions.specs.Ruled.{seen_in, operand, given, is_typed, is_parameter, is_mispassed, called, ruled}
 use Rattle.cr_meaning_typing.specs.Typed.Typing.{has_value}
 use Rattle.cr_meaning_typing.proofs.CallsLemmas.Arguments.{passes, each_passed, passable_by, exactly}
-use Rattle.cr_meaning_initialisation.specs.Called.Laws.{IsPassed}
+use Rattle.cr_meaning_objects.specs.Called.Laws.{IsPassed}
 
 passable : (type : Qualified) (v : Valued) → assignable (value_in type NotConstant) v ≡ true → IsPassed type
 passable (plain (Int k) c w) v e = tt

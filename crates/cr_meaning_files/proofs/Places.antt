@@ -24,7 +24,7 @@ use Rattle.cr_meaning_declarations.specs.Declared.Files.{IsUnitOfFile}
 use Rattle.cr_meaning_declarations.proofs.DeclaredLemmas.Nodes.{unit_tokens}
 use Rattle.cr_meaning_declarations.proofs.DeclaredLemmas.Files.{has_unit}
 use Rattle.cr_meaning_declarations.proofs.LastingLemmas.Begun.{one_of}
-use Rattle.cr_meaning_composites.proofs.ComposedLemmas.Told.{item_there}
+use Rattle.cr_meaning_objects.proofs.ComposedLemmas.Told.{item_there}
 use Rattle.cr_meaning_files.proofs.Living.{above}
 
 -- a node is an item of the unit, or a part of a node that stands in a place

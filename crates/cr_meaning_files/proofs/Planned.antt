@@ -57,7 +57,7 @@ use Rattle.cr_meaning_types.proofs.FittingLemmas.Names.{early}
 use Rattle.cr_meaning_types.proofs.FittingLemmas.Bounding.{bounded, structures}
 use Rattle.cr_meaning_types.proofs.FittingLemmas.Literals.{literals}
 use Rattle.cr_meaning_types.proofs.KnownLemmas.Reading.{row}
-use Rattle.cr_meaning_composites.proofs.ObjectsLemmas.Declaring.{last_there}
+use Rattle.cr_meaning_objects.proofs.ObjectsLemmas.Declaring.{last_there}
 use Rattle.cr_meaning_references.proofs.TypedefsLemmas.Files.{are_seen}
 use Rattle.cr_meaning_declarations.specs.Declared.Files.{IsUnitOfFile, assembled}
 use Rattle.cr_meaning_declarations.proofs.DeclaredLemmas.Bodies.{listed_at}

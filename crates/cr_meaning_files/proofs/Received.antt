@@ -53,18 +53,18 @@ use Rattle.cr_meaning_typing.specs.Typed.Typing.{has_value}
 use Rattle.cr_meaning_declarations.proofs.NamesLemmas.Parents.{IsPartOf}
 use Rattle.cr_meaning_declarations.specs.Declared.Files.{IsUnitOfFile}
 use Rattle.cr_meaning_declarations.proofs.DeclaredLemmas.Once.{automatic_at, alone}
-use Rattle.cr_meaning_composites.proofs.ObjectsLemmas.Declaring.{IsLast, last_there, entity_of_declared}
-use Rattle.cr_meaning_composites.proofs.ComposedLemmas.Begun.{first_exists}
+use Rattle.cr_meaning_objects.proofs.ObjectsLemmas.Declaring.{IsLast, last_there, entity_of_declared}
+use Rattle.cr_meaning_objects.proofs.ComposedLemmas.Begun.{first_exists}
 use Rattle.cr_meaning_files.specs.Celled.{SeesParameter}
 use Rattle.cr_meaning_files.proofs.Names as celled
 use Rattle.cr_meaning_files.proofs.Visible.{have}
 use Rattle.cr_meaning_files.proofs.Meant.{before_declared, declared_named}
-use Rattle.cr_meaning_composites.proofs.MainsLemmas.Defined.{values}
+use Rattle.cr_meaning_objects.proofs.MainsLemmas.Defined.{values}
 use Rattle.cr_meaning_references.proofs.ToldLemmas.Orderly.{apart}
 use Rattle.cr_meaning_typing.specs.Judged.Judged.{seen_in}
-use Rattle.cr_meaning_composites.specs.Parameters.Laws.{named_at, IsOwnParameter, HasObject}
-use Rattle.cr_meaning_composites.proofs.ParametersLemmas.Names.{token_at, name_there, one_name}
-use Rattle.cr_meaning_composites.proofs.ParametersLemmas.Objects.{objects}
+use Rattle.cr_meaning_objects.specs.Parameters.Laws.{named_at, IsOwnParameter, HasObject}
+use Rattle.cr_meaning_objects.proofs.ParametersLemmas.Names.{token_at, name_there, one_name}
+use Rattle.cr_meaning_objects.proofs.ParametersLemmas.Objects.{objects}
 use Rattle.cr_meaning_declarations.specs.Sight.Under.{is_under}
 use Rattle.cr_meaning_declarations.proofs.SightLemmas.Under.{directly, deeper}
 use Rattle.cr_meaning_declarations.proofs.DeclaredLemmas.Files.{has_unit}

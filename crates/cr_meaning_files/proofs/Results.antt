@@ -32,7 +32,7 @@ use Rattle.cr_meaning_typing.specs.Typed.Typing.{has_value}
 use Rattle.cr_meaning_typing.proofs.TypedLemmas.Worth.{unbroken}
 use Rattle.cr_meaning_types.proofs.KnownLemmas.Declaring.{declarator_holds}
 use Rattle.cr_meaning_typing.specs.Calls.Calls.{IsGiven}
-use Rattle.cr_meaning_initialisation.proofs.CalledLemmas.Fitting.{function_holds}
+use Rattle.cr_meaning_objects.proofs.CalledLemmas.Fitting.{function_holds}
 use Rattle.cr_check_signatures.proofs.FunctionsLemmas.Linked.{no_initialiser}
 
 -- the result of a function may be returned

@@ -32,8 +32,8 @@ use Rattle.cr_meaning_references.proofs.TreesLemmas.Tree.{HasPart, has_part, as_
 use Rattle.cr_meaning_files.proofs.Laid.{above_at}
 use Rattle.cr_meaning_files.proofs.Mains.{definition_counts}
 use Rattle.cr_meaning_files.proofs.Results.{all, of_kind}
-use Rattle.cr_meaning_composites.proofs.ChainedLemmas.Known.{function_there}
-use Rattle.cr_meaning_initialisation.proofs.CalledLemmas.Fitting.{mapped_at}
+use Rattle.cr_meaning_objects.proofs.ChainedLemmas.Known.{function_there}
+use Rattle.cr_meaning_objects.proofs.CalledLemmas.Fitting.{mapped_at}
 
 -- what may be returned and is known is a result
 result_is : (type : Qualified) → may_return type ≡ true → has_value type ≡ true → IsResult type

@@ -46,16 +46,16 @@ use Rattle.cr_meaning_typing.specs.Typed.Typing.{is_expression}
 use Rattle.cr_meaning_typing.specs.Judged.Judged.{seen_in}
 use Rattle.cr_meaning_types.specs.Known.Shaped.{fits, IsPart}
 use Rattle.cr_meaning_declarations.specs.Declared.Files.{IsUnitOfFile}
-use Rattle.cr_meaning_composites.specs.Objects.Laws.{DeclaresObject}
+use Rattle.cr_meaning_objects.specs.Objects.Laws.{DeclaresObject}
 use Rattle.cr_meaning_references.proofs.ToldLemmas.Orderly.{apart}
 use Rattle.cr_meaning_references.proofs.ToldLemmas.Names.{initial}
-use Rattle.cr_meaning_composites.proofs.ComposedLemmas.Told.{item_there}
+use Rattle.cr_meaning_objects.proofs.ComposedLemmas.Told.{item_there}
 use Rattle.cr_meaning_files.specs.Celled.{HasSeenType, SeesParameter}
 use Rattle.cr_meaning_files.proofs.Names as celled
 use Rattle.cr_meaning_files.proofs.Types.{typed}
-use Rattle.cr_meaning_composites.specs.Parameters.Laws.{named_at}
-use Rattle.cr_meaning_composites.proofs.ParametersLemmas.Objects.{is_listing}
-use Rattle.cr_meaning_composites.proofs.ParametersLemmas.Parameters.{in_tree}
+use Rattle.cr_meaning_objects.specs.Parameters.Laws.{named_at}
+use Rattle.cr_meaning_objects.proofs.ParametersLemmas.Objects.{is_listing}
+use Rattle.cr_meaning_objects.proofs.ParametersLemmas.Parameters.{in_tree}
 use Rattle.cr_meaning_declarations.specs.Sight.Under.{is_under}
 use Rattle.cr_meaning_declarations.proofs.SightLemmas.Under.{directly}
 use Rattle.cr_meaning_declarations.proofs.DeclaredLemmas.Files.{has_unit}

@@ -19,9 +19,9 @@ use Rattle.cr_meaning_typing.specs.Sorts.Table.{result_of}
 use Rattle.cr_meaning_declarations.proofs.NamesLemmas.Parents.{above_some}
 use Rattle.cr_meaning_declarations.specs.Declared.Files.{IsUnitOfFile}
 use Rattle.cr_meaning_declarations.proofs.DeclaredLemmas.Files.{has_unit}
-use Rattle.cr_meaning_composites.proofs.ComposedLemmas.Told.{item_there}
-use Rattle.cr_meaning_composites.specs.Mains.Laws.{IsMain}
-use Rattle.cr_meaning_composites.proofs.MainsLemmas.Mains.{declared_so}
+use Rattle.cr_meaning_objects.proofs.ComposedLemmas.Told.{item_there}
+use Rattle.cr_meaning_objects.specs.Mains.Laws.{IsMain}
+use Rattle.cr_meaning_objects.proofs.MainsLemmas.Mains.{declared_so}
 use Rattle.cr_meaning_files.specs.Reached.{is_definition}
 use Rattle.cr_meaning_files.specs.Files.{judgement_of}
 use Rattle.cr_meaning_files.proofs.Mains.{main_defined}

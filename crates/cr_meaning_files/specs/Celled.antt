@@ -28,10 +28,10 @@ use Rattle.cr_meaning.specs.World.{Program}
 use Rattle.cr_meaning_operations.specs.Shapes.{type_of_node, named_type, cells_of}
 use Rattle.cr_meaning_operations.specs.Operations.{entity_of, is_automatic_by}
 use Rattle.cr_meaning_typing.specs.Typed.Placed.{IsNamed}
-use Rattle.cr_meaning_initialisation.specs.Initialised.Composites.{IsSized}
+use Rattle.cr_meaning_objects.specs.Initialised.Composites.{IsSized}
 use Rattle.cr_meaning_declarations.specs.Declared.Files.{IsUnitOfFile}
 use Rattle.cr_meaning_typing.specs.Judged.Judged.{seen_in}
-use Rattle.cr_meaning_composites.specs.Objects.Laws.{DeclaresObject, HasLinkage}
+use Rattle.cr_meaning_objects.specs.Objects.Laws.{DeclaresObject, HasLinkage}
 
 -- a token always stands for the same: it is told once, or each time without linkage (6.2.2p6)
 abbrev pub IsSteady : ℕ → List Event → Type 0

@@ -18,8 +18,8 @@ use Rattle.cr_meaning_operations.specs.Operations.{kind_at, part_at, name_of, en
 use Rattle.cr_meaning_typing.specs.Typed.Placed.{IsNamed}
 use Rattle.cr_meaning_typing.specs.Typed.Typing.{has_value, is_expression}
 use Rattle.cr_meaning_declarations.specs.Declared.Files.{IsUnitOfFile}
-use Rattle.cr_meaning_composites.specs.Parameters.Laws.{named_at}
-use Rattle.cr_meaning_composites.specs.Composed.Laws.{IsObject}
+use Rattle.cr_meaning_objects.specs.Parameters.Laws.{named_at}
+use Rattle.cr_meaning_objects.specs.Composed.Laws.{IsObject}
 use Rattle.cr_meaning_typing.specs.Sorts.Founded.{AreLaidOut, AreReached}
 use Rattle.cr_meaning_typing.specs.Sorts.Table.{exits_at}
 use Rattle.cr_meaning_soundness.specs.Sorts.{IsAmong}

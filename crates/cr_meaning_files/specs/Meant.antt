@@ -15,9 +15,9 @@ use Rattle.cr_meaning.specs.declared.op.Parameter.{Parameter}
 use Rattle.cr_meaning_operations.specs.Shapes.{named_type}
 use Rattle.cr_meaning_operations.specs.Operations.{entity_of, function_in, callee_of}
 use Rattle.cr_meaning_typing.specs.Judged.Judged.{source_of}
-use Rattle.cr_meaning_composites.specs.Chained.Laws.{DeclaresFunction}
+use Rattle.cr_meaning_objects.specs.Chained.Laws.{DeclaresFunction}
 use Rattle.cr_meaning_declarations.specs.Declared.Files.{IsUnitOfFile}
-use Rattle.cr_meaning_initialisation.specs.Called.Laws.{IsMeant}
+use Rattle.cr_meaning_objects.specs.Called.Laws.{IsMeant}
 
 -- the declarator that a node sees is that of the token that is visible at a name, and declares a function
 pub record SeesFunction (file : List ℕ) (t : Typed) (it : IsUnitOfFile file t) (i name : ℕ) : Type 0 where

@@ -1,5 +1,0 @@
-use Rattle.cr_meaning_composites.proofs.ChainedLemmas.Chained.{follow}
-use Rattle.cr_meaning_composites.proofs.chained.declarations_follow.Goals as goal
-
-pub returns : goal.returns
-returns c = follow

@@ -1,5 +1,0 @@
-use Rattle.cr_meaning_composites.proofs.ChainedLemmas.Known.{definitions}
-use Rattle.cr_meaning_composites.proofs.chained.definitions_declare_functions.Goals as goal
-
-pub returns : goal.returns
-returns c = definitions

@@ -1,5 +1,0 @@
-use Rattle.cr_meaning_composites.proofs.ChainedLemmas.Chained.{one_outline}
-use Rattle.cr_meaning_composites.proofs.chained.functions_are_of_one_outline.Goals as goal
-
-pub returns : goal.returns
-returns c = one_outline

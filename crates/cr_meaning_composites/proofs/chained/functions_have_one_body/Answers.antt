@@ -1,5 +1,0 @@
-use Rattle.cr_meaning_composites.proofs.ChainedLemmas.Chained.{one_body}
-use Rattle.cr_meaning_composites.proofs.chained.functions_have_one_body.Goals as goal
-
-pub returns : goal.returns
-returns c = one_body

@@ -1,5 +1,0 @@
-use Rattle.cr_meaning_composites.proofs.ComposedLemmas.Named.{complete}
-use Rattle.cr_meaning_composites.proofs.composed.composites_complete.Goals as goal
-
-pub returns : goal.returns
-returns c = complete

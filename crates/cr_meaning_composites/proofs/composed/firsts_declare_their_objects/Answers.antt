@@ -1,5 +1,0 @@
-use Rattle.cr_meaning_composites.proofs.ComposedLemmas.Named.{firsts}
-use Rattle.cr_meaning_composites.proofs.composed.firsts_declare_their_objects.Goals as goal
-
-pub returns : goal.returns
-returns c = firsts

@@ -1,5 +1,0 @@
-use Rattle.cr_meaning_composites.proofs.ComposedLemmas.Owned.{own}
-use Rattle.cr_meaning_composites.proofs.composed.initialisers_are_objects.Goals as goal
-
-pub returns : goal.returns
-returns c = own

@@ -1,5 +1,0 @@
-use Rattle.cr_meaning_composites.proofs.ComposedLemmas.Named.{initialised}
-use Rattle.cr_meaning_composites.proofs.composed.initialisers_complete.Goals as goal
-
-pub returns : goal.returns
-returns c = initialised

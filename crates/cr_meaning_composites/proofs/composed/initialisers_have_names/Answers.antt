@@ -1,5 +1,0 @@
-use Rattle.cr_meaning_composites.proofs.ComposedLemmas.Naming.{has_name}
-use Rattle.cr_meaning_composites.proofs.composed.initialisers_have_names.Goals as goal
-
-pub returns : goal.returns
-returns c = has_name

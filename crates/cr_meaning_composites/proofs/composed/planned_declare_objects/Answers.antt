@@ -1,5 +1,0 @@
-use Rattle.cr_meaning_composites.proofs.ComposedLemmas.Planned.{planned}
-use Rattle.cr_meaning_composites.proofs.composed.planned_declare_objects.Goals as goal
-
-pub returns : goal.returns
-returns c = planned

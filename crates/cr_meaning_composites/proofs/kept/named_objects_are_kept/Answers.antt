@@ -1,5 +1,0 @@
-use Rattle.cr_meaning_composites.proofs.KeptLemmas.Kept.{keep}
-use Rattle.cr_meaning_composites.proofs.kept.named_objects_are_kept.Goals as goal
-
-pub returns : goal.returns
-returns c = keep

@@ -1,5 +1,0 @@
-use Rattle.cr_meaning_composites.proofs.KeptLemmas.Seen.{see}
-use Rattle.cr_meaning_composites.proofs.kept.places_see_objects.Goals as goal
-
-pub returns : goal.returns
-returns c = see

@@ -1,5 +1,0 @@
-use Rattle.cr_meaning_composites.proofs.MainsLemmas.Mains.{declared_so}
-use Rattle.cr_meaning_composites.proofs.mains.mains_are_declared_so.Goals as goal
-
-pub returns : goal.returns
-returns c = declared_so

@@ -1,5 +1,0 @@
-use Rattle.cr_meaning_composites.proofs.MainsLemmas.Defined.{defined_once}
-use Rattle.cr_meaning_composites.proofs.mains.names_are_defined_once.Goals as goal
-
-pub returns : goal.returns
-returns c = defined_once

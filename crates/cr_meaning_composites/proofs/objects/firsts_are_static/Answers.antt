@@ -1,5 +1,0 @@
-use Rattle.cr_meaning_composites.proofs.ObjectsLemmas.Statics.{statics}
-use Rattle.cr_meaning_composites.proofs.objects.firsts_are_static.Goals as goal
-
-pub returns : goal.returns
-returns c = statics

@@ -1,5 +1,0 @@
-use Rattle.cr_meaning_composites.proofs.ObjectsLemmas.Objects.{follow}
-use Rattle.cr_meaning_composites.proofs.objects.objects_follow_objects.Goals as goal
-
-pub returns : goal.returns
-returns c = follow

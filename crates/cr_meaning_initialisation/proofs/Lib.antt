@@ -1,3 +1,0 @@
-pub mod InitialisedLemmas
-pub mod CalledLemmas
-pub mod ClosedLemmas

@@ -1,5 +1,0 @@
-use Rattle.cr_meaning_initialisation.proofs.CalledLemmas.Fitting.{fitting}
-use Rattle.cr_meaning_initialisation.proofs.called.definitions_fit_calls.Goals as goal
-
-pub returns : goal.returns
-returns c = fitting

@@ -1,5 +1,0 @@
-use Rattle.cr_meaning_initialisation.proofs.ClosedLemmas.Closed.{closed}
-use Rattle.cr_meaning_initialisation.proofs.closed.definitions_take_no_more.Goals as goal
-
-pub returns : goal.returns
-returns c = closed

@@ -1,5 +1,0 @@
-use Rattle.cr_meaning_initialisation.proofs.InitialisedLemmas.Asked.{asked_tested}
-use Rattle.cr_meaning_initialisation.proofs.initialised.arrays_are_asked_for.Goals as goal
-
-pub returns : goal.returns
-returns c = asked_tested

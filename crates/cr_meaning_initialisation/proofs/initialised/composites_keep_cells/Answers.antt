@@ -1,5 +1,0 @@
-use Rattle.cr_meaning_initialisation.proofs.InitialisedLemmas.Composites.{composite_kept}
-use Rattle.cr_meaning_initialisation.proofs.initialised.composites_keep_cells.Goals as goal
-
-pub returns : goal.returns
-returns c = composite_kept

@@ -1,5 +1,0 @@
-use Rattle.cr_meaning_initialisation.proofs.InitialisedLemmas.Taken.{taken}
-use Rattle.cr_meaning_initialisation.proofs.initialised.initialisers_are_taken.Goals as goal
-
-pub returns : goal.returns
-returns c = taken

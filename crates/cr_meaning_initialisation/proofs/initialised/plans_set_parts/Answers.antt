@@ -1,5 +1,0 @@
-use Rattle.cr_meaning_initialisation.proofs.InitialisedLemmas.Parts.{set_tested}
-use Rattle.cr_meaning_initialisation.proofs.initialised.plans_set_parts.Goals as goal
-
-pub returns : goal.returns
-returns c = set_tested

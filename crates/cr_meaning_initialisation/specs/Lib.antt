@@ -1,3 +1,0 @@
-pub mod Initialised
-pub mod Called
-pub mod Closed

@@ -1,0 +1,9 @@
+pub mod ChainedLemmas
+pub mod ParametersLemmas
+pub mod ObjectsLemmas
+pub mod MainsLemmas
+pub mod ComposedLemmas
+pub mod KeptLemmas
+pub mod InitialisedLemmas
+pub mod CalledLemmas
+pub mod ClosedLemmas
