@@ -135,6 +135,7 @@ left 2 1¦int f(int n) { return n ? f(n - 1) : 0; } int main(void) { return f(25
 lawful 0¦int f(int n) { return n ? f(n - 1) : 0; } int main(void) { return f(254); }
 left 5 1¦int main(void) { int x = 1; return *(unsigned *)&x; }
 lawful 1¦int main(void) { int x = 1; return *(const int *)&x; }
+lawful 1¦int main(void) { int x = 1; void *v = &x; return *(const int *)v; }
 left 6 1¦int main(void) { int a[2], b[2]; return a + 2 == b; }
 lawful 0¦int main(void) { int a[2], b[2]; return a == b; }
 left 7 1¦int printf(const char *, ...); int main(void) { printf("%5d\\n", 1); return 0; }
