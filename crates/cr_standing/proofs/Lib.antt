@@ -1,4 +1,4 @@
 pub mod Reading
-pub mod Epochs
+pub mod Positions
 pub mod Crews
 pub mod Lending

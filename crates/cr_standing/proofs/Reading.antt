@@ -62,7 +62,7 @@ leads_taken s st to position at found it =
 within_itself : (turns : ℕ) → turns ≤ turns
 within_itself turns = omega arith
 
-one_left : (limit : Option ℕ) (turns : ℕ) → limit ≢ Some turns → Within limit turns → Within limit (turns + 1)
+pub one_left : (limit : Option ℕ) (turns : ℕ) → limit ≢ Some turns → Within limit turns → Within limit (turns + 1)
 one_left None turns more within = tt
 one_left (Some most) turns more within = elim (cases_lt turns most) [
   | inl less ↦ omega arith

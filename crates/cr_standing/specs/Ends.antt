@@ -9,7 +9,7 @@ use Rattle.cr_reduce.specs.Search.{Search}
 use Rattle.cr_reduce.specs.Walk.{EndsHere}
 use Rattle.cr_reduce.specs.declared.end.End.{End}
 use Rattle.cr_reduce.specs.declared.end.Why.TheVariants.{Fault}
-use Rattle.cr_standing.specs.declared.crew.Ended.{Ended}
+use Rattle.cr_standing.specs.declared.running.Ended.{Ended}
 use Rattle.cr_standing.specs.declared.walk.Walk.{Walk}
 use Rattle.cr_standing_workers.specs.Serving.{Serves}
 use Rattle.cr_standing_workers.specs.Told.{EndsIfTold}

@@ -1,4 +1,4 @@
-pub mod Slots
+pub mod Links
 pub mod Walk
 pub mod Crew
 pub mod Ends

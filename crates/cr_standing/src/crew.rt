@@ -3,7 +3,7 @@ ghost use Rattle.std.specs.Prelude.{◌≡◌, ◌≤◌, ◌<◌, ◌+◌, ◌�
 ghost use Rattle.std.specs.Thread.{IsSync};
 ghost use Rattle.cr_reduce.specs.Reduction.{Within};
 ghost use Rattle.cr_standing_workers.specs.Channels.{AllAre, AreJoined, AreSeats};
-ghost use Rattle.cr_standing.specs.Crew.{IsDone};
+ghost use Rattle.cr_standing.specs.Crew.{IsBack};
 ghost use Rattle.cr_standing_workers.specs.Serving.{Serves};
 ghost use Rattle.cr_standing_workers.specs.Told.{IsAbout, searching_by};
 ghost use Rattle.cr_standing.specs.Walk.{IsSound};
@@ -20,64 +20,71 @@ use std::sync::Wait;
 use std::thread;
 use std::thread::Threads;
 
-/// What comes back: all judges, the caller's first, and where and why the walk ended.
+/// What comes back: all judges, where the walk stands, and why it ended, if it did.
 #[derive(Drop)]
-pub struct Ended<J, T> {
+pub struct Back<J, T> {
     pub judges: Vec<J>,
     pub walk: Walk<T>,
-    pub why: Why,
+    pub why: Option<Why>,
+    /// Whether a thread was started.
+    pub manned: bool,
 }
 
-/// With no worker left to start: the walk, and the orders to stop.
-fn alone<R: Wait, S: Subject<P::Prep>, P: Passes, L: Law, Q: Question, J: Judge + Drop>(
+/// With no worker left to start: the walk by those that were started, so many, and the orders to stop.
+fn walk_and_stop<R: Wait, S: Subject<P::Prep>, P: Passes, L: Law, Q: Question, J: Judge + Drop>(
     rt: &R,
     alloc: Global,
     task: &Task<'_, P, L, Q>,
     lines: &Lines<'_, S, P::Prep>,
-    mut judge: J,
-    mut judges: Vec<J>,
+    judges: Vec<J>,
     made: usize,
     stops: usize,
     mut seat: Seat<P::Prep>,
-    ahead: u64,
+    threads: u64,
     plan: &Plan,
     mut walk: Walk<P::Prep>,
-) -> Ended<J, P::Prep>
+) -> Back<J, P::Prep>
     requires about { IsAbout (searching_by P.Passes L.Law Q.Question task.now S.told) (P.offer task.now.passes.now) S.orders S.replies S.verdicts }
-    requires told { J.says (J.key judge) ≡ S.told }
     requires joined { AreJoined lines.now }
     requires seats { AreSeats lines.now seat }
     requires sound { IsSound (P.offers task.now.passes.now) (P.offer task.now.passes.now) walk }
     requires window { (0 < plan.now.window) × (plan.now.window ≤ 4096) }
     requires within { Within plan.now.limit walk.turns }
-    requires room { (judges.items ≡ []) × (made < vec_capacity judges) }
-    ensures { IsDone (searching_by P.Passes L.Law Q.Question task.now S.told) J.Judge (Q.asks task.now.question.now) (P.offer task.now.passes.now) plan.now.limit made stops walk judge [] result }
+    requires room { (judges.items ≡ []) × (made ≤ vec_capacity judges) }
+    ensures { IsBack (searching_by P.Passes L.Law Q.Question task.now S.told) J.Judge (Q.asks task.now.question.now) (P.offers task.now.passes.now) (P.offer task.now.passes.now) plan.now.limit made stops walk [] result }
 {
-    let why = walk_on(
-        rt, alloc, task, lines, &mut judge, &mut seat, ahead, plan, &mut walk,
-    );
-    lines.hint.begin(0);
+    let why = walk_on(rt, alloc, task, lines, &mut seat, threads, plan, &mut walk);
     stop_workers(rt, lines, &mut seat, stops);
-    judges.push_reserved(judge);
-    Ended { judges, walk, why }
+    Back {
+        judges,
+        walk,
+        why,
+        manned: threads > 0,
+    }
 }
 
 /// A worker was joined.
-fn hand_on<J: Drop, T: Drop>(ended: Ended<J, T>, other: J) -> Ended<J, T>
-    requires room { length ended.judges.items < vec_capacity ended.judges }
-    ensures judges { (result.judges.items ≡ ended.judges.items ++ other ∷ []) × (vec_capacity result.judges ≡ vec_capacity ended.judges) }
-    ensures same { (result.walk ≡ ended.walk) × (result.why ≡ ended.why) }
+fn hand_on<J: Drop, T: Drop>(back: Back<J, T>, other: J) -> Back<J, T>
+    requires room { length back.judges.items < vec_capacity back.judges }
+    ensures judges { (result.judges.items ≡ back.judges.items ++ other ∷ []) × (vec_capacity result.judges ≡ vec_capacity back.judges) }
+    ensures same { (result.walk ≡ back.walk) × (result.why ≡ back.why) }
 {
-    let Ended {
+    let Back {
         mut judges,
         walk,
         why,
-    } = ended;
+        manned,
+    } = back;
     judges.push_reserved(other);
-    Ended { judges, walk, why }
+    Back {
+        judges,
+        walk,
+        why,
+        manned,
+    }
 }
 
-/// Starts the workers, so many, the last first, walks, and joins them. Of the other judges, the first ones work; those behind them do nothing.
+/// Starts the workers, so many, the last first, has the walk go on, and joins them. Of the judges, the first ones work; those behind them do nothing.
 pub fn crew<
     R: Threads + Wait + Sync,
     S: Subject<P::Prep> + Send + Sync,
@@ -90,49 +97,46 @@ pub fn crew<
     alloc: Global,
     task: &Task<'_, P, L, Q>,
     lines: &Lines<'_, S, P::Prep>,
-    judge: J,
     mut others: Vec<J>,
     judges: Vec<J>,
     made: usize,
     stops: usize,
     mut seat: Seat<P::Prep>,
-    ahead: u64,
+    threads: u64,
     plan: &Plan,
     walk: Walk<P::Prep>,
-) -> Ended<J, P::Prep>
+) -> Back<J, P::Prep>
 where
     P::Prep: Send + Sync,
     requires about { IsAbout (searching_by P.Passes L.Law Q.Question task.now S.told) (P.offer task.now.passes.now) S.orders S.replies S.verdicts }
-    requires told { J.says (J.key judge) ≡ S.told }
     requires all_told { AllAre (λ j. J.says (J.key j) ≡ S.told) others.items }
     requires joined { AreJoined lines.now }
     requires seats { AreSeats lines.now seat }
     requires sound { IsSound (P.offers task.now.passes.now) (P.offer task.now.passes.now) walk }
     requires window { (0 < plan.now.window) × (plan.now.window ≤ 4096) }
     requires within { Within plan.now.limit walk.turns }
-    requires room { (judges.items ≡ []) × (made < vec_capacity judges) }
+    requires room { (judges.items ≡ []) × (made ≤ vec_capacity judges) }
     requires few { length others.items ≤ made }
-    ensures { IsDone (searching_by P.Passes L.Law Q.Question task.now S.told) J.Judge (Q.asks task.now.question.now) (P.offer task.now.passes.now) plan.now.limit made stops walk judge others.items result }
+    ensures { IsBack (searching_by P.Passes L.Law Q.Question task.now S.told) J.Judge (Q.asks task.now.question.now) (P.offers task.now.passes.now) (P.offer task.now.passes.now) plan.now.limit made stops walk others.items result }
 {
     let Some(other) = others.pop() else {
-        return alone(
-            rt, alloc, task, lines, judge, judges, made, stops, seat, ahead, plan, walk,
+        return walk_and_stop(
+            rt, alloc, task, lines, judges, made, stops, seat, threads, plan, walk,
         );
     };
     if others.len() >= stops {
-        let ended = crew(
-            rt, alloc, task, lines, judge, others, judges, made, stops, seat, ahead, plan, walk,
+        let back = crew(
+            rt, alloc, task, lines, others, judges, made, stops, seat, threads, plan, walk,
         );
-        return hand_on(ended, other);
+        return hand_on(back, other);
     }
     let other_seat = another_seat(alloc, lines, &mut seat);
     thread::scope(
         thread::scope_env(),
         rt,
-        |scope| -> Ended<J, P::Prep>
+        |scope| -> Back<J, P::Prep>
             requires sync { IsSync R.row }
             requires about { IsAbout (searching_by P.Passes L.Law Q.Question task.now S.told) (P.offer task.now.passes.now) S.orders S.replies S.verdicts }
-            requires told { J.says (J.key judge) ≡ S.told }
             requires other_told { J.says (J.key other) ≡ S.told }
             requires all_told { AllAre (λ j. J.says (J.key j) ≡ S.told) others.items }
             requires joined { AreJoined lines.now }
@@ -141,10 +145,10 @@ where
             requires sound { IsSound (P.offers task.now.passes.now) (P.offer task.now.passes.now) walk }
             requires window { (0 < plan.now.window) × (plan.now.window ≤ 4096) }
             requires within { Within plan.now.limit walk.turns }
-            requires room { (judges.items ≡ []) × (made < vec_capacity judges) }
+            requires room { (judges.items ≡ []) × (made ≤ vec_capacity judges) }
             requires few { length others.items < made }
             requires works { length others.items < stops }
-            ensures { IsDone (searching_by P.Passes L.Law Q.Question task.entry.now S.told) J.Judge (Q.asks task.entry.now.question.now) (P.offer task.entry.now.passes.now) plan.entry.now.limit made stops walk judge
+            ensures { IsBack (searching_by P.Passes L.Law Q.Question task.entry.now S.told) J.Judge (Q.asks task.entry.now.question.now) (P.offers task.entry.now.passes.now) (P.offer task.entry.now.passes.now) plan.entry.now.limit made stops walk
                 (others.items ++ other ∷ []) result }
         {
             let word = Word {
@@ -161,14 +165,15 @@ where
                     ensures { Serves J.Judge (Q.asks task.entry.now.question.now) other result }
                 { serve(rt, alloc, task, lines, other, other_seat) },
             );
-            let ended = crew(
-                rt, alloc, task, lines, judge, others, judges, made, stops, seat, ahead, plan, walk,
+            let threads = threads.saturating_add(u64::from(started.is_ok()));
+            let back = crew(
+                rt, alloc, task, lines, others, judges, made, stops, seat, threads, plan, walk,
             );
             let other = match started {
                 Ok(handle) => handle.join(rt),
                 Err(refused) => (refused.value)(),
             };
-            hand_on(ended, other)
+            hand_on(back, other)
         },
     )
 }

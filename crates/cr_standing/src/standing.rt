@@ -22,7 +22,7 @@ use std::sync::Wait;
 use std::thread::Threads;
 
 /// Reduces a lawful file as `reduce` of `cr_reduce` does, by the workers of a bench, each in a thread that stays for the whole reduction,
-/// but the first, which is the caller's. What the bench keeps is forgotten.
+/// where there are two or more and the question asks them. What the bench keeps is forgotten.
 ///
 /// It may wait: for the judges, and for the workers. Where a thread can't be started the others do its part.
 pub fn reduce_standing<

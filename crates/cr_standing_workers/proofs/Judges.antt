@@ -18,10 +18,10 @@ use Rattle.cr_reduce.specs.Search.{Search}
 use Rattle.cr_reduce.proofs.Runs.{called_first, goes_on-refl, goes_on-trans, goes_on_first}
 use Rattle.cr_standing_workers.specs.declared.trial.Found.{Found}
 use Rattle.cr_standing_workers.specs.declared.trial.Found.TheVariants as found
-use Rattle.cr_standing_workers.specs.declared.trial.Tried.TheVariants as tried
+use Rattle.cr_standing_workers.specs.declared.trial.Weighed.TheVariants as weighed
 use Rattle.cr_standing_workers.specs.Channels.{AllAre}
 use Rattle.cr_standing_workers.specs.Serving.{Serves}
-use Rattle.cr_standing_workers.specs.Told.{FoundSays, TriedSays, found_of, tried_of}
+use Rattle.cr_standing_workers.specs.Told.{FoundSays, TriedSays, WeighedSays, found_of, tried_of, weighed_of}
 
 module _ {J K : Type 0} (judge : JudgeGhosts J K) (asks : Bool) where
   pub serves-refl : (j : J) → Serves judge asks j j
@@ -46,6 +46,21 @@ module _ {J K : Type 0} (judge : JudgeGhosts J K) (asks : Bool) where
   pub each-refl : (js : List J) → Each (Serves judge asks) js js
   each-refl [] = tt
   each-refl (j ∷ js) = (serves-refl j, each-refl js)
+
+  pub each-trans : (xs ys zs : List J) → Each (Serves judge asks) xs ys → Each (Serves judge asks) ys zs → Each (Serves judge asks) xs zs
+  each-trans [] [] [] first second = tt
+  each-trans [] [] (c ∷ zs) first second = absurd second
+  each-trans [] (b ∷ ys) zs first second = absurd first
+  each-trans (a ∷ xs) [] zs first second = absurd first
+  each-trans (a ∷ xs) (b ∷ ys) [] first second = absurd second
+  each-trans (a ∷ xs) (b ∷ ys) (c ∷ zs) first second = (serves-trans a b c first.0 second.0, each-trans xs ys zs first.1 second.1)
+
+  -- what they say stays
+  pub each_told : (says : K → Says) (told : Says) (xs ys : List J) → Each (Serves judge asks) xs ys → AllAre (λ j. says (judge.key j) ≡ told) xs → AllAre (λ j. says (judge.key j) ≡ told) ys
+  each_told says told [] [] all is = tt
+  each_told says told [] (b ∷ ys) all is = absurd all
+  each_told says told (a ∷ xs) [] all is = absurd all
+  each_told says told (a ∷ xs) (b ∷ ys) all is = (ap says all.0.key ∙ is.0, each_told says told xs ys all.1 is.1)
 
   pub each_more : (xs ys : List J) (x y : J) → Each (Serves judge asks) xs ys → Serves judge asks x y → Each (Serves judge asks) (xs ++ x ∷ []) (ys ++ y ∷ [])
   each_more [] [] x y all it = (it, tt)
@@ -82,7 +97,7 @@ asked_if : (asks : Bool) (answer : Answer) → (asks ≡ false → answer ≢ Fa
 asked_if true answer unfailing is = refl
 asked_if false answer unfailing is = absurd (unfailing refl is)
 
-smaller_than : (file variant : List ℕ) (size n : ℕ) → HasSize file size → HasSize variant n → n < size → IsSmaller variant file
+pub smaller_than : (file variant : List ℕ) (size n : ℕ) → HasSize file size → HasSize variant n → n < size → IsSmaller variant file
 smaller_than file variant size n sized has less = record { new_size = n; old_size = size; new_is = has; old_is = sized; less = less }
 
 -- of a lawful one that was asked about
@@ -99,20 +114,19 @@ found_asked judge s old new variant Failed lawful told once unfailing rose =
 found_asked judge s old new variant NoMemory lawful told once unfailing rose = tt
 
 -- what was found of a smaller variant is what its trial comes to
-pub tried_found : (s : Search) (before now : Judging) (file variant : List ℕ) (size n : ℕ) (it : Found) → HasSize file size → HasSize variant n → n < size → FoundSays s before now variant it
-    → TriedSays s before now file variant (tried_of it)
-tried_found s before now file variant size n (found.Verdict verdict.Yes) sized has less says = record { smaller = smaller_than file variant size n sized has less; lawful = says.0; answered = says.1 }
-tried_found s before now file variant size n (found.Verdict verdict.No) sized has less says = answered_no says.1
-tried_found s before now file variant size n (found.Verdict verdict.Unlawful) sized has less says = unlawful says
-tried_found s before now file variant size n found.Stopped sized has less says = tt
-tried_found s before now file variant size n found.Failed sized has less says = record { smaller = smaller_than file variant size n sized has less; lawful = says.0; failed = says.1 }
-tried_found s before now file variant size n found.NoMemory sized has less says = tt
+pub tried_found : (s : Search) (before now : Judging) (file variant : List ℕ) (it : Found) → IsSmaller variant file → FoundSays s before now variant it → TriedSays s before now file variant (tried_of it)
+tried_found s before now file variant (found.Verdict verdict.Yes) smaller says = record { smaller = smaller; lawful = says.0; answered = says.1 }
+tried_found s before now file variant (found.Verdict verdict.No) smaller says = answered_no says.1
+tried_found s before now file variant (found.Verdict verdict.Unlawful) smaller says = unlawful says
+tried_found s before now file variant found.Failed smaller says = record { smaller = smaller; lawful = says.0; failed = says.1 }
+tried_found s before now file variant found.NoMemory smaller says = tt
+
+-- what a right verdict says of a smaller variant
+pub weighed_right : (s : Search) (file variant : List ℕ) (v : Verdict) → IsSmaller variant file → IsRight s.Lawful s.asks s.Tells variant v → WeighedSays s file variant (weighed_of v)
+weighed_right s file variant verdict.Yes smaller right = record { smaller = smaller; lawful = right.0; answered = right.1 }
+weighed_right s file variant verdict.No smaller right = answered_no right.1
+weighed_right s file variant verdict.Unlawful smaller right = unlawful right
 
 -- and one that isn't smaller is rejected
-pub says_large : (s : Search) (file variant : List ℕ) (size : ℕ) → HasSize file size → IsLarge variant size → (before now : Judging) → TriedSays s before now file variant tried.No
-says_large s file variant size sized large before now = not_smaller (large_no_smaller file variant size sized large)
-
--- a verdict that is remembered is right
-pub recalled : (s : Search) (before now : Judging) (Verdicts : List ℕ → Verdict → Type 0) → ((file : List ℕ) (v : Verdict) → Verdicts file v → IsRight s.Lawful s.asks s.Tells file v)
-    → (file : List ℕ) (v : Verdict) → Verdicts file v → FoundSays s before now file (found.Verdict v)
-recalled s before now Verdicts out file v it = out file v it
+pub weighed_large : (s : Search) (file variant : List ℕ) (size : ℕ) → HasSize file size → IsLarge variant size → WeighedSays s file variant weighed.No
+weighed_large s file variant size sized large = not_smaller (large_no_smaller file variant size sized large)

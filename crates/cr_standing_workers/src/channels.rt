@@ -118,6 +118,7 @@ pub fn send_reply<R: Wait, S: Subject<T>, T: Drop>(
     requires seats { AreSeats lines.now seat.old }
     requires is_true { IsTrue S.replies reply }
     ensures seats { AreSeats lines.now seat.new }
+    ensures variant { seat.new.variant ≡ seat.old.variant }
 {
     lines
         .replies

@@ -4,47 +4,43 @@ ghost use Rattle.std.specs.Prelude.{ℕ};
 use cr_cursor::Stop;
 use std::sync::atomic::{AtomicU64, Ordering};
 
-/// The epoch that is tried, and the least position in it that is known to be a hit.
+/// The orders that were dropped last: those with tickets from one to before another.
 #[derive(Drop)]
 pub struct Hint {
-    epoch: AtomicU64,
-    least: AtomicU64,
+    low: AtomicU64,
+    high: AtomicU64,
 }
 
 impl Hint {
-    /// Of no epoch yet, which is numbered 0, and of no hit.
+    /// None was dropped yet.
     pub fn new() -> Hint {
         Hint {
-            epoch: AtomicU64::new(0),
-            least: AtomicU64::new(u64::MAX),
+            low: AtomicU64::new(u64::MAX),
+            high: AtomicU64::new(0),
         }
     }
 
-    /// Begins an epoch: orders of any other needn't be tried.
-    pub fn begin(&self, epoch: u64) {
-        self.least.store(u64::MAX, Ordering::SeqCst);
-        self.epoch.store(epoch, Ordering::SeqCst);
+    /// Drops the orders from this ticket to before the other, which no order has yet.
+    pub fn drop_tickets(&self, low: u64, high: u64) {
+        // Whoever looks meanwhile, `high` first, sees no order as dropped that isn't.
+        self.low.store(u64::MAX, Ordering::SeqCst);
+        self.high.store(high, Ordering::SeqCst);
+        self.low.store(low, Ordering::SeqCst);
     }
 
-    /// Tells of a hit.
-    pub fn hit(&self, epoch: u64, position: u64) {
-        if self.epoch.load(Ordering::SeqCst) == epoch {
-            let _ = self.least.fetch_min(position, Ordering::SeqCst);
-        }
-    }
-
-    /// Whether a position needn't be tried.
-    pub fn is_moot(&self, epoch: u64, position: u64) -> bool {
-        self.epoch.load(Ordering::SeqCst) != epoch || self.least.load(Ordering::SeqCst) < position
+    /// Whether an order needn't be tried any more.
+    pub fn is_moot(&self, ticket: u64) -> bool {
+        let high = self.high.load(Ordering::SeqCst);
+        let low = self.low.load(Ordering::SeqCst);
+        low <= ticket && ticket < high
     }
 }
 
-/// Stops a ruling on a variant that needn't be tried any more.
+/// Stops a ruling for an order that needn't be tried any more.
 #[derive(Drop)]
 pub struct Watch<'a> {
     pub hint: &'a Hint,
-    pub epoch: u64,
-    pub position: u64,
+    pub ticket: u64,
     /// Whether a look has answered so.
     pub raised: bool,
     pub looks: u64,
@@ -61,7 +57,7 @@ impl<'a> Stop for Watch<'a> {
 
     fn stop(&mut self) -> bool {
         self.looks = self.looks.saturating_add(1);
-        let moot = self.hint.is_moot(self.epoch, self.position);
+        let moot = self.hint.is_moot(self.ticket);
         self.raised = self.raised || moot;
         moot
     }

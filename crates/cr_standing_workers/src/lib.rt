@@ -1,9 +1,10 @@
 //! Workers that stay for a whole reduction: what goes between them and their caller, and what they do.
 //!
-//! Orders, each a position of a file, go through one ruled channel, and replies come back through another. The rules are that each
-//! order is one of a position of its file's offer, and that each reply says what is so. Both are about the passes, the law, the
-//! question and the judges of one reduction, which the channels' types carry as a parameter, `Subject`. A worker tries what is ordered:
-//! it makes the variant, measures it, has the law rule on it where it is smaller, and asks the question where it is lawful too.
+//! Orders, each a run of positions of a file, go through one ruled channel, and replies come back through another. The rules are that
+//! each order is one of positions of its file's offer, and that each reply says what is so. Both are about the passes, the law, the
+//! question and the judges of one reduction, which the channels' types carry as a parameter, `Subject`. A worker goes over the run: it
+//! makes each variant, measures it, and has the law rule on it where it is smaller, up to the first that is lawful too. It says so, asks
+//! the question about that one, and replies.
 //!
 //! The crate promises that no reply is sent but a true one, and what becomes of the judge. It stands on `cr_reduce`'s definitions,
 //! `cr_cursor`, `cr_outside`, `cr_pool` and `crossbeam_channel`.
@@ -25,5 +26,5 @@ pub use hint::{Hint, Watch};
 pub use memory::Memory;
 pub use orders::{Order, Place, Reply, Shared, Subject, Trial};
 pub use task::Task;
-pub use trial::{Tried, make_variant, try_at};
+pub use trial::{Tried, Weighed, ask, make_variant, try_at, weigh};
 pub use work::{Word, answer, serve};

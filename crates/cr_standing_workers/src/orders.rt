@@ -16,11 +16,13 @@ pub struct Shared<T> {
     pub prep: T,
 }
 
-/// A position of a file that is to be tried, in an epoch.
+/// A run of positions of a file that are to be tried in their order, up to the first that is asked about. Each order has a ticket of its own.
 #[derive(Drop)]
 pub struct Place<T> {
-    pub epoch: u64,
-    pub position: u64,
+    pub ticket: u64,
+    pub from: u64,
+    /// The position behind the last one.
+    pub to: u64,
     pub file: Arc<Shared<T>, Global>,
 }
 
@@ -37,12 +39,18 @@ pub enum Trial {
     Yes,
     /// It wasn't decided.
     Skipped,
+    /// It is smaller and lawful, and its test runs.
+    Asked,
 }
 
+/// What a worker says of a position of its order. Those before it are rejected.
 #[derive(Drop)]
 pub struct Reply<T> {
     pub place: Place<T>,
+    pub at: u64,
     pub trial: Trial,
+    /// Whether the question was asked.
+    pub asked: bool,
 }
 
 /// What the orders and replies of one reduction are about. Each reduction picks it.

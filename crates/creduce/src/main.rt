@@ -5,6 +5,9 @@
 
 ghost use Rattle.std.specs.Prelude.{◌≡◌, IfOk, length};
 
+mod usual;
+
+use crate::usual::with_workers;
 use cr_main::run_more;
 use cr_pool::Bench;
 use creduce_system::{ProcessJudge, Progress, Shown, StdDisk, StdOut};
@@ -59,7 +62,7 @@ fn words(rt: &HostRuntime) -> Result<Vec<String>, AllocError> {
 }
 
 fn reduce(rt: &HostRuntime, threads: &(impl Threads + Wait + Sync)) -> Result<u8, AllocError> {
-    let words = words(rt)?;
+    let words = with_workers(rt.alloc(), threads, words(rt)?)?;
     let progress = Progress::new(rt, shown(rt));
     let mut bench = bench(rt, &progress)?;
     // The files, and the journal beside one of them.

@@ -3,6 +3,8 @@ ghost use Rattle.std.specs.Prelude.{None};
 
 use cr_outside::{Answer, Judge};
 use std::alloc::Global;
+use std::sync::atomic::{AtomicU64, Ordering};
+use std::thread;
 
 /// Knows what to say about some files, and says no to all others. Its first calls fail, so many. It tells nothing.
 #[derive(Drop)]
@@ -56,5 +58,61 @@ impl Judge for Knowing {
             self.faults = self.faults.saturating_add(1);
         }
         answer
+    }
+}
+
+/// Says yes to each file but the empty one. A call about four lines of seven bytes ends only once a shorter file is asked about.
+#[derive(Drop)]
+pub(crate) struct Onward<'a> {
+    least: &'a AtomicU64,
+    missed: &'a AtomicU64,
+    asked: u64,
+}
+
+impl<'a> Onward<'a> {
+    pub(crate) fn new(least: &'a AtomicU64, missed: &'a AtomicU64) -> Onward<'a> {
+        Onward {
+            least,
+            missed,
+            asked: 0,
+        }
+    }
+}
+
+// Whether a shorter file that isn't empty is asked about while it is looked at many times.
+fn falls_below(least: &AtomicU64, len: u64) -> bool {
+    for _ in 0..10_000_000 {
+        if least.load(Ordering::SeqCst) < len {
+            return true;
+        }
+        thread::yield_now();
+    }
+    false
+}
+
+impl<'a> Judge for Onward<'a> {
+    type Key = ();
+
+    ghost key = { λ _. tt };
+
+    ghost says = { λ _ _ _ _. None };
+
+    ghost asked = { λ j. j.asked };
+
+    ghost calls = { λ _. None };
+
+    ghost faults = { λ _. 0 };
+
+    fn ask(&mut self, _alloc: Global, _test: &str, _name: &str, file: &[u8]) -> Answer {
+        self.asked = self.asked.saturating_add(1);
+        if file.is_empty() {
+            return Answer::No;
+        }
+        let len = file.len() as u64;
+        self.least.fetch_min(len, Ordering::SeqCst);
+        if len == 28 && !falls_below(self.least, len) {
+            self.missed.store(1, Ordering::SeqCst);
+        }
+        Answer::Yes
     }
 }

@@ -3,7 +3,7 @@ ghost use Rattle.std.specs.Prelude.{◌≡◌, ◌<◌, ◌≤◌, [], IfOk, len
 
 use cr_cursor::TokenLaw;
 use cr_outside::{Answer, Judge, Test};
-use cr_pool::{Bench, measure};
+use cr_pool::{Bench, Worker, measure};
 use cr_reduce::{End, Plan, reduce};
 use cr_standing::reduce_standing;
 use pass_list::CPasses;
@@ -78,25 +78,26 @@ fn reduced<R: Threads + Wait + Abort + Sync>(
     alloc: Global,
     seed: u64,
     stands: bool,
+    bench: &mut Bench<Chance>,
     plan: &Plan,
 ) -> Result<End, AllocError>
-    requires workers { (0 < plan.now.workers) × (plan.now.workers ≤ 32) }
+    requires workers { (0 < plan.now.workers) × (plan.now.workers ≤ length bench.old.judges) }
+    requires kept { bench.old.kept ≡ [] }
     requires window { (0 < plan.now.window) × (plan.now.window ≤ 4096) }
 {
     let file = lines(alloc, 2 + seed % 7)?;
     let Some(_size) = measure(alloc, file.as_slice())? else {
         panic!(rt; "the lines have no size");
     };
-    let mut bench = bench(alloc, seed, plan.workers)?;
     let question = Test::Program(String::from_str(alloc, "t")?);
     let passes = CPasses::lines();
     Ok(if stands {
         reduce_standing(
-            rt, alloc, &passes, &TokenLaw, &question, &mut bench, "t.c", file, plan,
+            rt, alloc, &passes, &TokenLaw, &question, bench, "t.c", file, plan,
         )
     } else {
         reduce(
-            rt, alloc, &passes, &TokenLaw, &question, &mut bench, "t.c", file, plan,
+            rt, alloc, &passes, &TokenLaw, &question, bench, "t.c", file, plan,
         )
     })
 }
@@ -108,6 +109,22 @@ fn are_alike(one: &End, other: &End) -> bool {
         && one.accepted == other.accepted
 }
 
+/// How often all judges were asked.
+fn asked_by(alloc: Global, bench: &mut Bench<Chance>) -> u64 {
+    bench.lend(
+        alloc,
+        |workers: Vec<Worker<Chance>>| -> (Vec<Worker<Chance>>, u64)
+            ensures { result.0 ≡ workers }
+        {
+            let mut asked = 0u64;
+            for worker in &workers {
+                asked = asked.saturating_add(worker.judge.asked);
+            }
+            (workers, asked)
+        },
+    )
+}
+
 #[test]
 fn a_hundred_random_reductions_come_out_as_by_epochs(rt: HostRuntime) -> Result<(), AllocError> {
     for seed in 0..100u64 {
@@ -116,12 +133,39 @@ fn a_hundred_random_reductions_come_out_as_by_epochs(rt: HostRuntime) -> Result<
             window: 1 + (seed % 19) as u32,
             limit: None,
         };
-        let plain = reduced(&rt, rt.alloc(), seed, false, &plan)?;
-        let standing = reduced(&rt, rt.alloc(), seed, true, &plan)?;
+        let mut by_epochs = bench(rt.alloc(), seed, plan.workers)?;
+        let plain = reduced(&rt, rt.alloc(), seed, false, &mut by_epochs, &plan)?;
+        let mut by_standing = bench(rt.alloc(), seed, plan.workers)?;
+        let standing = reduced(&rt, rt.alloc(), seed, true, &mut by_standing, &plan)?;
         assert!(rt;
             are_alike(&standing, &plain),
             "another end than the plain run's"
         );
+    }
+    Ok(())
+}
+
+#[test]
+fn guesses_cost_half_as_many_tests_again_at_most(rt: HostRuntime) -> Result<(), AllocError> {
+    for seed in 0..20u64 {
+        let alone = Plan {
+            workers: 1,
+            window: 16,
+            limit: None,
+        };
+        let mut one = bench(rt.alloc(), seed, alone.workers)?;
+        let _ = reduced(&rt, rt.alloc(), seed, true, &mut one, &alone)?;
+        let plan = Plan {
+            workers: 8,
+            window: 16,
+            limit: None,
+        };
+        let mut eight = bench(rt.alloc(), seed, plan.workers)?;
+        let _ = reduced(&rt, rt.alloc(), seed, true, &mut eight, &plan)?;
+        let needed = asked_by(rt.alloc(), &mut one);
+        let asked = asked_by(rt.alloc(), &mut eight);
+        // What two threads ask about at once, before either has an answer, counts twice.
+        assert!(rt; asked.saturating_mul(2) <= needed.saturating_mul(3).saturating_add(40));
     }
     Ok(())
 }

@@ -1,7 +1,7 @@
 // Reductions of three lines by the lines pass. What is wanted was found by hand from the rules of the pass and of the reduction.
 ghost use Rattle.std.specs.Prelude.{◌≡◌, ◌<◌, ◌≤◌};
 
-use crate::judges::Knowing;
+use crate::judges::{Knowing, Onward};
 use cr_cursor::TokenLaw;
 use cr_outside::{Answer, Judge, Test};
 use cr_pool::{Bench, Worker, measure};
@@ -31,7 +31,7 @@ const WITH_A_FAULT: &[(&[u8], Answer)] = &[
 
 const FAILING: &[(&[u8], Answer)] = &[(b"int c;\n", Answer::Failed)];
 
-/// The end of the reduction of the lines by all judges of a bench.
+/// The end of the reduction of the three lines by all judges of a bench.
 fn reduced<R: Threads + Wait + Abort + Sync, J: Judge + Send + Drop>(
     rt: &R,
     alloc: Global,
@@ -40,14 +40,29 @@ fn reduced<R: Threads + Wait + Abort + Sync, J: Judge + Send + Drop>(
 ) -> Result<End, AllocError>
     requires window { (0 < window) × (window ≤ 4096) }
 {
-    let file = Vec::from_array(alloc, *b"int a;\nint b;\nint c;\n")?;
+    reduced_within(rt, alloc, bench, LINES, window, None)
+}
+
+/// The end of the reduction of a file, with a limit on its turns.
+fn reduced_within<R: Threads + Wait + Abort + Sync, J: Judge + Send + Drop>(
+    rt: &R,
+    alloc: Global,
+    bench: &mut Bench<J>,
+    text: &[u8],
+    window: u32,
+    limit: Option<u64>,
+) -> Result<End, AllocError>
+    requires window { (0 < window) × (window ≤ 4096) }
+{
+    let mut file = Vec::with_capacity(alloc, text.len())?;
+    file.extend_from_slice(text)?;
     let Some(_size) = measure(alloc, file.as_slice())? else {
         panic!(rt; "the lines have no size");
     };
     let plan = Plan {
         workers: bench.workers(),
         window,
-        limit: None,
+        limit,
     };
     let question = Test::Program(String::from_str(alloc, "t")?);
     let passes = CPasses::lines();
@@ -176,5 +191,35 @@ fn trials_run_at_once(rt: HostRuntime) -> Result<(), AllocError> {
         missed.load(Ordering::SeqCst) == 0,
         "a trial waited for another one in vain"
     );
+    Ok(())
+}
+
+#[test]
+fn each_limit_ends_it_at_its_turn(rt: HostRuntime) -> Result<(), AllocError> {
+    for limit in 0..20u64 {
+        let mut bench = knowing(rt.alloc(), &[], 4)?;
+        let end = reduced_within(&rt, rt.alloc(), &mut bench, LINES, 5, Some(limit))?;
+        assert!(rt; end.turns == limit.min(18));
+        let why = if limit < 18 { Why::Limit } else { Why::Fixed };
+        assert!(rt; end.why == why);
+    }
+    Ok(())
+}
+
+#[test]
+fn a_guessed_file_is_tried_while_its_test_runs(rt: HostRuntime) -> Result<(), AllocError> {
+    let least = AtomicU64::new(u64::MAX);
+    let missed = AtomicU64::new(0);
+    let mut judges = Vec::new(rt.alloc());
+    judges.push(Onward::new(&least, &missed))?;
+    judges.push(Onward::new(&least, &missed))?;
+    let mut bench = Bench::new(rt.alloc(), judges)?;
+    let mut file = Vec::new(rt.alloc());
+    for _ in 0..128u64 {
+        file.extend_from_slice(b"int a;\n")?;
+    }
+    let end = reduced_within(&rt, rt.alloc(), &mut bench, file.as_slice(), 8, None)?;
+    assert!(rt; end.why == Why::Fixed && end.file.as_slice() == b"int a;\n".as_slice());
+    assert!(rt; missed.load(Ordering::SeqCst) == 0);
     Ok(())
 }

@@ -2,7 +2,7 @@ use Rattle.std.proofs.Common.{◌≡◌, List, ℕ, subst, arith}
 use Rattle.std.specs.Arc.{arc_value}
 use Rattle.cr_reduce.specs.Walk.{IsTaken}
 use Rattle.cr_standing.specs.Walk.{Leads, standing_at}
-use Rattle.cr_standing.proofs.Epochs.{first_found, found_smaller, on_ok}
+use Rattle.cr_standing.proofs.Positions.{first_found, found_smaller, on_ok}
 use Rattle.cr_standing.proofs.Reading.{leads_taken}
 use Rattle.cr_standing_workers.specs.declared.orders.Shared.{Shared}
 use Rattle.cr_standing_workers.specs.Told.{AtPosition, searching_by}
