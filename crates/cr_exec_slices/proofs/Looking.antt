@@ -2,7 +2,7 @@
 use Rattle.std.proofs.Common.{◌≡◌, ℕ, ◌+◌, ◌-◌, ◌*◌, ◌^◌, ◌<◌, ◌≤◌, min, Option, Some, None, Bool, false, ◌||◌, ap, refl, sym, subst, ◌∙◌, arith}
 use Rattle.std.specs.Prelude.{IfSome, MatchOption}
 use Rattle.cr_cursor.specs.Stops.{after_look}
-use Rattle.cr_exec_slices.specs.Looks.{HasLooked, LooksOf, IsOver, IsInSlice, HasCaughtUp, IsBetweenSlices}
+use Rattle.cr_exec_slices.specs.Looks.{HasLooked, HasStopped, LooksOf, IsOver, IsInSlice, HasCaughtUp, IsBetweenSlices}
 use Rattle.cr_exec_slices.specs.declared.machine.Outcome.{Outcome}
 use Rattle.cr_exec_slices.specs.declared.machine.Outcome.TheVariants.{Came, Halted, Stopped}
 
@@ -58,18 +58,18 @@ has_looked before looks taken h = record {
   least = let l = h.least in omega (arith, l);
 }
 
-has_stopped : (before looks whole times : ℕ) → whole ≡ times * 4096 → looks ≡ min (before + (times + 1)) (2 ^ 64 - 1) → HasLooked before looks whole 4096
-has_stopped before looks whole times w c = record { times = times + 1; counted = c; most = omega (arith, w); least = omega (arith, w) }
+stopped_by : (before looks taken times : ℕ) → times * 4096 ≤ taken → looks ≡ min (before + (times + 1)) (2 ^ 64 - 1) → HasStopped before looks taken
+stopped_by before looks taken times w c = (times * 4096, (w, record { times = times + 1; counted = c; most = omega arith; least = omega arith }))
 
--- what the looks were of a run that ended, or was stopped
+-- a run that was stopped before a slice
+pub has_stopped : (before looks start from steps : ℕ) → IsInSlice before looks start from → steps ≤ from → HasStopped before looks (start - steps)
+has_stopped before looks start from steps h few = stopped_by before looks (start - steps) h.times (let w = h.whole in omega (arith, w, few)) h.counted
+
+-- the looks of a run that came to its end
 pub looks_all : {T : Type 0} (outcome : Outcome T) (before looks taken : ℕ) → HasCaughtUp before looks taken → LooksOf outcome before looks taken
 looks_all (Came held) before looks taken h = has_looked before looks taken h
 looks_all (Halted halted) before looks taken h = has_looked before looks taken h
-looks_all Stopped before looks taken h = (h.times * 4096, (h.least, has_stopped before looks (h.times * 4096) h.times refl h.counted))
-
-pub looks_stopped : (before looks start from steps : ℕ) → IsInSlice before looks start from → steps ≤ from → (whole : ℕ) × ((whole ≤ start - steps) × HasLooked before looks whole 4096)
-looks_stopped before looks start from steps h few =
-    (h.times * 4096, (let w = h.whole in omega (arith, w, few), has_stopped before looks (h.times * 4096) h.times refl h.counted))
+looks_all Stopped before looks taken h = stopped_by before looks taken h.times h.least h.counted
 
 -- a stop that answered no
 pub not_raised : (before answer after : Bool) → after ≡ (before || answer) → before ≡ false → answer ≡ false → after ≡ false

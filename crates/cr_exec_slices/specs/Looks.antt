@@ -11,10 +11,14 @@ pub record HasLooked (before after taken ahead : ℕ) : Type 0 where
   pub most : taken + ahead ≤ times * 4096
   pub least : times * 4096 ≤ taken + 4096
 
--- the looks of a run that took so many steps. One that was stopped took whole slices and then no more than those of the node after
--- which the machine looked: these slices had a look each, and there was one more
+-- a run that was stopped after so many steps: each whole slice had a look before it, and there was one more look, after which it took
+-- none, but where a node took the steps beyond
+abbrev pub HasStopped : ℕ → ℕ → ℕ → Type 0
+HasStopped before after taken = (whole : ℕ) × ((whole ≤ taken) × HasLooked before after whole 4096)
+
+-- the looks of a run that took so many steps
 abbrev pub LooksOf : {T : Type 0} → Outcome T → ℕ → ℕ → ℕ → Type 0
-LooksOf Stopped before after taken = (whole : ℕ) × ((whole ≤ taken) × HasLooked before after whole 4096)
+LooksOf Stopped before after taken = HasStopped before after taken
 LooksOf other before after taken = HasLooked before after taken 0
 
 -- a slice that is to leave so many steps, if it isn't the last one, is over where so many are left

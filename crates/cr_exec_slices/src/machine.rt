@@ -1,12 +1,12 @@
 // The machine, in slices.
-ghost use Rattle.std.specs.Prelude.{◌≡◌, ℕ, ◌≤◌, ◌<◌, ◌+◌, ◌-◌, ◌*◌, ◌^◌, ◌++◌, ◌||◌, min, IfSome, MatchOption, OnOk, replicate, take, false, true, List, []};
+ghost use Rattle.std.specs.Prelude.{◌≡◌, ℕ, ◌≤◌, ◌<◌, ◌+◌, ◌-◌, ◌*◌, ◌++◌, IfSome, MatchBool, MatchOption, OnOk, replicate, take, false, true, List, []};
 ghost use Rattle.cr_meaning.specs.World.{Answer as SpecAnswer, next as followed};
 ghost use Rattle.cr_meaning.specs.Turns.{Enter as TurnsEnter, Resume as TurnsResume, Ready as TurnsReady};
 ghost use Rattle.cr_exec_stack.specs.Waiting.{Waiting, with_more};
 ghost use Rattle.cr_exec_slices.specs.Turns.{way_at, reaching, turning};
 ghost use Rattle.cr_exec_slices.specs.Shown.{fresh_of, place_of, came, ShowsWaiting, Turns, ComesTo};
 ghost use Rattle.cr_meaning_seen.specs.Marks.{Mark};
-ghost use Rattle.cr_exec_slices.specs.Looks.{IsOver, IsInSlice, HasCaughtUp, LooksOf};
+ghost use Rattle.cr_exec_slices.specs.Looks.{IsOver, IsInSlice, HasCaughtUp, HasStopped, LooksOf};
 ghost use Rattle.cr_exec_slices.specs.declared.machine.Point.{Point as SpecPoint};
 
 use crate::nodes::{Fresh, Halted, Nodes, Way};
@@ -256,23 +256,24 @@ fn left_by(until: Option<u64>) -> u64
 /// The looks after the slices behind the one that began with `from` steps, where `left` are left: a node may have taken the steps of several
 /// slices. Whether the stop asked to give up.
 fn catch_up<S: Stop>(stop: &mut S, from: u64, left: u64) -> bool
-    requires { left ≤ from }
-    ensures raised { S.raised stop.new ≡ (S.raised stop.old || result) }
+    requires raised { S.raised stop.old ≡ false }
+    requires behind { left ≤ from }
+    ensures raised { S.raised stop.new ≡ result }
     ensures held { S.held stop.new ≡ S.held stop.old }
-    ensures looked { (before start : ℕ) → IsInSlice before (S.looks stop.old) start from → HasCaughtUp before (S.looks stop.new) (start - left) }
+    ensures looked { (before start : ℕ) → IsInSlice before (S.looks stop.old) start from
+        → MatchBool result (HasStopped before (S.looks stop.new) (start - left)) (HasCaughtUp before (S.looks stop.new) (start - left)) }
 {
-    let mut raised = false;
     let mut from = from;
     while let Some(until) = slice_end(from) {
         if until <= left {
-            return raised;
+            return false;
         }
         if stop.stop() {
-            raised = true;
+            return true;
         }
         from = until;
     }
-    raised
+    false
 }
 
 /// The end of a run whose last node has answered.

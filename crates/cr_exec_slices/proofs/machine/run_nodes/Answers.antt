@@ -5,7 +5,7 @@ use Rattle.cr_exec_slices.specs.declared.machine.Turned.TheVariants.{Goes, Came}
 use Rattle.cr_exec_slices.specs.declared.machine.Outcome.{Outcome}
 use Rattle.cr_exec_slices.specs.Shown.{ComesTo}
 use Rattle.cr_exec_slices.proofs.Keeping.{continues_at_first, continues_turned, continues_all, comes_to, halts_as}
-use Rattle.cr_exec_slices.proofs.Looking.{no_look, has_begun, is_over, over_at, looks_all, looks_stopped, not_raised}
+use Rattle.cr_exec_slices.proofs.Looking.{no_look, has_begun, is_over, over_at, looks_all, has_stopped, not_raised}
 use Rattle.cr_exec_slices.proofs.machine.run_nodes.Goals as goal
 
 pub loop-stop-init : goal.loop-stop-init
@@ -66,5 +66,5 @@ pub returns-then-stop-clause-looked : goal.returns-then-stop-clause-looked
 returns-then-stop-clause-looked g c =
     let before : ℕ = g.S.Stop.looks c.args.stop.now in
     let start : ℕ = (g.N.Nodes.world c.args.nodes.now).steps in
-    looks_stopped before (g.S.Stop.looks c.stop.new.self) start c.loop-stop.from (g.N.Nodes.world c.loop-stop.nodes).steps
+    has_stopped before (g.S.Stop.looks c.stop.new.self) start c.loop-stop.from (g.N.Nodes.world c.loop-stop.nodes).steps
     (has_begun before (g.S.Stop.looks c.loop-stop.stop) (g.S.Stop.looks c.stop.new.self) start c.loop-stop.from c.loop-stop.invariant.looked c.stop.ensures.looks) c.loop-stop.invariant.behind
