@@ -9,7 +9,7 @@ use Rattle.std.specs.FinMap as finite
 use Rattle.std.specs.Str.{bytes_eq}
 use Rattle.cr_outside.specs.Files.{Names, content_of, with_file}
 use Rattle.cr_outside.specs.Story.{Event, Story, changes_of, files_now, gone_on, with_event}
-use Rattle.cr_outside.specs.Story.Event.{Read, Wrote}
+use Rattle.cr_outside.specs.Story.Event.{Opened, Read, Wrote}
 use Rattle.cr_outside.specs.declared.story.Outcome.{Outcome}
 use Rattle.cr_outside_disk.specs.Moments.{Always, AlwaysTold, EveryTold, IsImage, Lasts, LastsTold, Later}
 use Rattle.cr_outside_disk.specs.Images.{Leaves}
@@ -141,7 +141,15 @@ module _ (copy name bytes : List ℕ) (header : Body) (rest : List Body) where
     lasting = lasting_changes old new later (λ some. (lasts some).1);
   }
 
-  -- ---- calls on the files
+  -- ---- openings, and calls on the files
+
+  pub open_phase : (told : Option Story) (other : List ℕ) → SafeTold copy name bytes (header ∷ rest) told → StaysSafeTold copy name bytes (header ∷ rest) told (with_event (Opened other) told)
+  open_phase None other safe = tt
+  open_phase (Some s) other safe = record {
+    later = (Opened other ∷ [], refl);
+    safe = throughout_event (IsSafe copy name bytes (header ∷ rest)) s (Opened other) safe (record { kept = safe.kept; copied = safe.copied; unchanged = safe.unchanged });
+    lasting = lasting_event s (Opened other) (λ some was. was);
+  }
 
   pub read_phase : (told : Option Story) (other : List ℕ) (most : ℕ) (end : Outcome) → SafeTold copy name bytes (header ∷ rest) told
       → StaysSafeTold copy name bytes (header ∷ rest) told (with_event (Read other most end) told)

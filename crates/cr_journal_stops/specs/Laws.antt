@@ -2,7 +2,7 @@
 use Rattle.std.specs.Prelude.{◌≡◌, ◌⊎◌, ℕ, Bool, List, [], ◌∷◌, Option, Some, None}
 use Rattle.cr_outside.specs.Files.{content_of}
 use Rattle.cr_outside.specs.Story.{Story, files_now, with_event}
-use Rattle.cr_outside.specs.Story.Event.{Read, Wrote}
+use Rattle.cr_outside.specs.Story.Event.{Opened, Read, Wrote}
 use Rattle.cr_outside.specs.declared.story.Outcome.{Outcome}
 use Rattle.cr_outside_disk.specs.Moments.{AlwaysTold, EveryTold, IsImage, LastsTold}
 use Rattle.cr_journal_records.specs.Records.{Body, IsKept, Stands, StandsFirst}
@@ -36,7 +36,12 @@ JournalCallsAreSafe = (copy name bytes : List ℕ) (header : Body) (rest : List 
     → AlwaysTold (IsKept (header ∷ rest)) old new → Spares copy bytes old new → ((some : List Body) → LastsTold (Stands some) old new)
     → StaysSafeTold copy name bytes (header ∷ rest) old new
 
--- So does a read of any file,
+-- So does an opening of any file as the journal,
+abbrev pub OpeningsAreSafe : Type 0
+OpeningsAreSafe = (copy name bytes : List ℕ) (header : Body) (rest : List Body) (told : Option Story) (other : List ℕ) → SafeTold copy name bytes (header ∷ rest) told
+    → StaysSafeTold copy name bytes (header ∷ rest) told (with_event (Opened other) told)
+
+-- a read of any file,
 abbrev pub ReadsAreSafe : Type 0
 ReadsAreSafe = (copy name bytes : List ℕ) (header : Body) (rest : List Body) (told : Option Story) (other : List ℕ) (most : ℕ) (end : Outcome) → SafeTold copy name bytes (header ∷ rest) told
     → StaysSafeTold copy name bytes (header ∷ rest) told (with_event (Read other most end) told)

@@ -9,3 +9,4 @@ pub mod Alike
 pub mod ByEngine
 pub mod Others
 pub mod More
+pub mod Touching

@@ -23,9 +23,10 @@ use Rattle.cr_main_task.proofs.Calls.{read_fails, read_goes_on, task_faults, tas
 use Rattle.cr_main_task.proofs.Completing.{task_free}
 use Rattle.cr_main_task.proofs.Endings.{IsLate, not_late, task_ends}
 use Rattle.cr_main_task.proofs.Headlines.{IsDone, few_asked, not_done, task_done}
-use Rattle.cr_main_task.proofs.Journals.{read_keeps_journal, task_keeps_journal}
+use Rattle.cr_main_task.proofs.Journals.{Any, journal_steps}
 use Rattle.cr_main_task.proofs.Keeping.{task_keeps}
 use Rattle.cr_main_task.proofs.Statuses.{put_status}
+use Rattle.cr_main_task.proofs.Steps.{by_read, task_steps}
 use Rattle.cr_main_words.specs.Names.{name_of}
 use Rattle.cr_main_words.specs.Words.{Word}
 use Rattle.cr_main_words.specs.declared.source.Source.{Source}
@@ -63,7 +64,7 @@ opens_fails (source.Named name) files old new calls = read_fails (name_of (sourc
 opens_fails (source.Made number items) files old new calls = let never = calls.0 in cc
 
 pub opens_keep : (s : Source) (files : Option Names) (end : Outcome) (old new : Option Story) → (text_of s files).Opens end old new → KeepsJournal old new
-opens_keep (source.Named name) files end old new calls = read_keeps_journal (name_of (source.Named name)) end old new calls
+opens_keep (source.Named name) files end old new calls = by_read KeepsJournal Any Any journal_steps (name_of (source.Named name)) end old new tt calls
 opens_keep (source.Made number items) files end old new calls = ap journal_told calls.1
 
 -- a made text is read and saved by no call
@@ -133,7 +134,7 @@ module _ (words : List Word) (most : ℕ) (says : Telling) (old new : Outside) (
   journal_kept (unsorted same quiet is) = ap (λ o. journal_told o.story) same
   journal_kept (on_task settings own gives is_own run) =
       let t = task_of settings says own in
-      task_keeps_journal t (by_epochs t) (text_of settings.source old.files) (λ a b same. ap journal_told same) (opens_keep settings.source old.files) old new before after status run
+      task_steps KeepsJournal Any Any journal_steps t (by_epochs t) (text_of settings.source old.files) (λ a b same. ap journal_told same) (opens_keep settings.source old.files) (λ on. (tt, tt, tt)) old new before after status run
 
   asks_only : Runs words most says old new before after status → AsksOnly words most says old before after
   asks_only (no_settings none idle said) = run_asks_nothing idle.judges

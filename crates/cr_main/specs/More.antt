@@ -1,12 +1,13 @@
 -- What a run comes to, of all that words may ask for.
-use Rattle.std.specs.Prelude.{◌≡◌, ◌⊎◌, ◌+◌, ◌*◌, ◌-◌, ℕ, Bool, true, false, List, [], ◌++◌, codes, drop, length}
+use Rattle.std.specs.Prelude.{◌≡◌, ◌⊎◌, ◌+◌, ◌*◌, ◌-◌, ℕ, Bool, true, false, List, [], ◌∷◌, ◌++◌, codes, drop, length, Option, None, Some}
 use Rattle.std.specs.String.{string_bytes}
 use Rattle.cr_formula.specs.Forms.{Form, Spells}
 use Rattle.cr_lawful.specs.Lawful.{limits_of}
 use Rattle.cr_meaning.specs.declared.run.Limits.{Limits}
 use Rattle.cr_outside.specs.Question.{Says}
-use Rattle.cr_outside.specs.Story.{files_told}
+use Rattle.cr_outside.specs.Story.{Story, files_told}
 use Rattle.cr_outside.specs.Test.{asks_test}
+use Rattle.cr_outside.specs.Touches.{TouchesOnly, Touching}
 use Rattle.cr_outside.specs.declared.test.Test.{Test}
 use Rattle.cr_outside.specs.declared.test.Test.TheVariants as test
 use Rattle.cr_reduce.specs.Bench.{AsksAtMost, GoesOn, Judging}
@@ -14,6 +15,7 @@ use Rattle.cr_main_formula.specs.Formulas.{IsFormulaHeadline}
 use Rattle.cr_main_kept.specs.Completing.{CompletesFirst, CompletesOn}
 use Rattle.cr_main_kept.specs.Kept.{RunsJournal, RunsResume}
 use Rattle.cr_main_kept.specs.KeptTask.{KeptTask, at}
+use Rattle.cr_main_kept.specs.Lines.{DiskFailed, journal_name}
 use Rattle.cr_main_kept.specs.Promises.{AsksOnlyOn, CopiesAtMost, EndsOn, KeepsFilesOn}
 use Rattle.cr_main_kept.specs.Surviving.{Survives}
 use Rattle.cr_main_kept.specs.declared.header.Marks.{Marks}
@@ -21,6 +23,7 @@ use Rattle.cr_main_replay.specs.Replay.{IsReplayed, Replaying, RunsReplay}
 use Rattle.cr_main_replay.specs.Programs.{replaying_of}
 use Rattle.cr_main_standing.specs.Standing.{by_standing}
 use Rattle.cr_main_task.specs.Bound.{AsksBound, BoundEnded, HasAllBound, HasReducedBound, KeepsBound}
+use Rattle.cr_main_task.specs.Messages.{copy_name, log_name}
 use Rattle.cr_main_task.specs.Opening.{RunsBound}
 use Rattle.cr_main_task.specs.Outside.{Outside, Puts}
 use Rattle.cr_main_task.specs.Run.{Claiming, by_epochs}
@@ -38,6 +41,7 @@ use Rattle.cr_main_words.specs.declared.request.Request.{Request}
 use Rattle.cr_main_words.specs.declared.request.Request.TheVariants as request
 use Rattle.cr_main_words.specs.declared.settings.Settings.{Settings}
 use Rattle.cr_main_words.specs.declared.source.Source.{Source}
+use Rattle.cr_main_words.specs.declared.source.Source.TheVariants as from
 use Rattle.cr_main.specs.Messages.{usage_line}
 use Rattle.cr_main.specs.Run.{DoesNothing}
 use Rattle.cr_main.specs.Task.{IsRunnable, Query, asked_of, marks_of, text_of}
@@ -171,10 +175,10 @@ abbrev pub AsksFew : Settings → KeptTask → Outside → Outside → Judging �
 AsksFew settings k old new before after status = (it : HasReducedBound (at k) (λ bytes. by_epochs (at k bytes)) (text_of settings.source old.files) old new before after status)
     → (status ≡ 0) ⊎ (status ≡ 7) → AsksAtMost (it.reduced.end.turns + length it.reduced.end.accepted.items * (settings.window - 1) + 1) before after
 
--- How a run ends that keeps a journal: at 12 the call on the disk made last failed; at 12 and 13 neither the file nor the log was written.
+-- How a run ends that keeps a journal: at 12 a call on the disk failed, the one on it made last; at 12 and 13 neither the file nor the log was written.
 pub record EndsWithJournal (k : KeptTask) (marks : Marks) (old new : Outside) (after : Judging) (has_failed : Bool) (status : ℕ) : Type 0 where
   pub ends : ((status ≡ 0) ⊎ (status ≡ 7)) ⊎ ((status ≡ 8) ⊎ (status ≡ 10)) → EndsOn k marks old new after status
-  pub failed : status ≡ 12 → (has_failed ≡ true) × CopiesAtMost k.name (files_told old.story) (files_told new.story)
+  pub failed : status ≡ 12 → DiskFailed old.faults new.faults has_failed × CopiesAtMost k.name (files_told old.story) (files_told new.story)
   pub refused : status ≡ 13 → files_told new.story ≡ files_told old.story
 
 abbrev pub EndsIn : Engine → Settings → Query → KeptTask → Outside → Outside → Judging → Judging → Bool → ℕ → Type 0
@@ -205,6 +209,36 @@ pub data KeepsMore (words : List Word) (most : ℕ) (says : Says) (old new : Out
   more_unchanged : new.files ≡ old.files → KeepsMore words most says old new after
   more_kept : (settings : Settings) (modes : Modes) (query : Query) (own : List ℕ) → IsReducing words most settings modes query own
       → KeepsIn modes.engine settings.source (asked_of settings modes.any_order query says own) old new after → KeepsMore words most says old new after
+
+-- ---- what is touched
+
+-- the names that a run with a journal reads: one that goes on the copy too
+abbrev pub reads_by : Engine → List ℕ → List (List ℕ)
+reads_by engine.Resume name = name ∷ copy_name name ∷ []
+reads_by _ name = name ∷ []
+
+abbrev pub journal_by : Engine → List ℕ → Option (List ℕ)
+journal_by engine.Journal name = Some (journal_name name)
+journal_by engine.Resume name = Some (journal_name name)
+journal_by _ name = None
+
+-- a reduction touches its file, the copy, the log, and where one is kept the journal beside it; of a made text nothing
+abbrev pub touching_of : Engine → Source → Touching
+touching_of kind (from.Made number items) = record { reads = []; writes = []; journal = None }
+touching_of kind (from.Named name) =
+    let file = name_of (from.Named name) in record { reads = reads_by kind file; writes = copy_name file ∷ file ∷ log_name file ∷ []; journal = journal_by kind file }
+
+-- a replay reads the copy, the log and the file, and writes nothing
+abbrev pub touching_by : Request → Touching
+touching_by (request.Reduction settings modes) = touching_of modes.engine settings.source
+touching_by (request.Replay asked) =
+    record { reads = copy_name (string_bytes asked.file) ∷ string_bytes asked.log ∷ string_bytes asked.file ∷ []; writes = []; journal = None }
+
+-- All that a run does to what stands outside is within what its words ask for, and each change of a journal comes behind an opening; where they ask
+-- for nothing, nothing is done.
+pub record TouchesMore (words : List Word) (most : ℕ) (old new : Option Story) : Type 0 where
+  pub asked : (asked : Request) → Asks words most asked → TouchesOnly (touching_by asked) old new
+  pub unasked : AsksNothing words most → new ≡ old
 
 -- What the test is asked. Of standing workers no more is said than that no call is taken back.
 abbrev pub AsksIn : Engine → Source → KeptTask → Outside → Judging → Judging → Type 0

@@ -3,7 +3,7 @@ pub use Rattle.cr_formula.specs.Forms.{Form, Spells, form_of}
 pub use Rattle.cr_lawful.specs.Lawful.{IsLawful, limits_of}
 pub use Rattle.cr_main.specs.Headline.{AsksOnly, Completes, HasEnded, IsHeadline, KeepsFiles, KeepsToWorkers, NeedsNoFiles, NeedsNoJudge, Promises}
 pub use Rattle.cr_main.specs.Messages.{usage_line}
-pub use Rattle.cr_main.specs.More.{AsksForJournal, AsksMore, BeginsWithIf, CompletesMore, Does, EndsMore, IsFormula, IsPlain, IsQuiet, IsSilent, KeepsMore, KeepsToAsked, LeavesOthers, MayRun, RunsAsked, RunsIn, RunsMore, RunsPlain, SurvivesMore, word_of}
+pub use Rattle.cr_main.specs.More.{AsksForJournal, AsksMore, BeginsWithIf, CompletesMore, Does, EndsMore, IsFormula, IsPlain, IsQuiet, IsSilent, KeepsMore, KeepsToAsked, LeavesOthers, MayRun, RunsAsked, RunsIn, RunsMore, RunsPlain, SurvivesMore, TouchesMore, word_of}
 pub use Rattle.cr_main.specs.Run.{Runs}
 pub use Rattle.cr_main.specs.Task.{IsMakeable, IsRunnable, IsTaskOf, asked_by, law_by, marks_of, saves_of, task_of, text_of}
 pub use Rattle.cr_main_standing.specs.Standing.{by_standing}
@@ -15,6 +15,7 @@ pub use Rattle.cr_main_task.specs.Task.{IsOfPrograms, task_at}
 pub use Rattle.cr_main_words.specs.Names.{IsOwnName, name_of}
 pub use Rattle.cr_main_words.specs.Requests.{Suits}
 pub use Rattle.cr_main_words.specs.Words.{texts_of}
+pub use Rattle.cr_outside.specs.Faults.{Rose}
 pub use Rattle.cr_outside.specs.Story.{EndsWithFault, files_told}
 pub use Rattle.cr_outside.specs.Test.{asks_test}
 pub use Rattle.cr_reduce.specs.Bench.{judging, keys_of, says_of}

@@ -1,8 +1,9 @@
 -- What settings of the command line ask for.
-use Rattle.std.specs.Prelude.{◌≡◌, ◌<◌, ◌≤◌, ℕ, Bool, true, false, List, [], Option}
+use Rattle.std.specs.Prelude.{◌≡◌, ◌<◌, ◌≤◌, ◌^◌, ℕ, Bool, true, false, List, [], Option}
 use Rattle.cr_formula.specs.Forms.{Form}
 use Rattle.cr_formula_bound.specs.Values.{TellsFormula}
 use Rattle.cr_gen.specs.Program.{generated}
+use Rattle.cr_journal.specs.Laws.{most_turns}
 use Rattle.cr_lawful.specs.Lawful.{IsLawful, IsReason, limits_of}
 use Rattle.cr_meaning.specs.declared.run.Limits.{Limits}
 use Rattle.cr_order.specs.Orders.{IsLawfulInOrder, IsOrderReason}
@@ -88,6 +89,7 @@ pub record IsRunnable (most : ℕ) (settings : Settings) : Type 0 where
   pub workers : (0 < settings.workers) × (settings.workers ≤ most)
   pub window : (0 < settings.window) × (settings.window ≤ 4096)
   pub makeable : IsMakeable settings.source
+  pub limit : most_turns settings.limit < 2 ^ 63
 
 -- A value of the code is the task of settings, by some law and some question.
 pub record IsTaskOf {L A : Type 0} (settings : Settings) (asked : Asked CPasses L A) : Type 0 where

@@ -29,7 +29,7 @@ pub fn run_request<R: Threads + Wait + Sync, W: Files + Disk, J: Judge + Send + 
 ) -> u8
     requires runnable { MayRun (length bench.old.judges) request.now }
     ensures does { Does request.now (says_of J.Judge bench.old)
-        (outside W.Outside W.Files.own world.old O.Sink out.old) (outside W.Outside W.Files.own world.new O.Sink out.new)
+        (outside W.Outside world.old O.Sink out.old) (outside W.Outside world.new O.Sink out.new)
         (judging J.Judge bench.old) (judging J.Judge bench.new) (W.Disk.has_failed world.new) result }
     ensures others { LeavesOthers request.now bench.old.judges bench.new.judges }
     ensures silent { IsQuiet request.now → bench.new.judges ≡ bench.old.judges }
@@ -64,7 +64,7 @@ fn run_asked<R: Threads + Wait + Sync, W: Files + Disk, J: Judge + Send + Drop, 
     requires runnable { IsRunnable (length bench.old.judges) settings.now }
     requires suits { Suits modes.engine settings.now.source }
     ensures runs { RunsAsked settings.now modes (says_of J.Judge bench.old)
-        (outside W.Outside W.Files.own world.old O.Sink out.old) (outside W.Outside W.Files.own world.new O.Sink out.new)
+        (outside W.Outside world.old O.Sink out.old) (outside W.Outside world.new O.Sink out.new)
         (judging J.Judge bench.old) (judging J.Judge bench.new) (W.Disk.has_failed world.new) result }
     ensures others { drop settings.now.workers bench.new.judges ≡ drop settings.now.workers bench.old.judges }
     ensures formula { IsFormula settings.now.test → bench.new.judges ≡ bench.old.judges }
@@ -99,7 +99,7 @@ fn run_by_test<R: Threads + Wait + Sync, W: Files + Disk, J: Judge + Send + Drop
     requires suits { Suits modes.engine settings.now.source }
     requires no_formula { IsFormula settings.now.test → ⊥ }
     ensures runs { RunsAsked settings.now modes (says_of J.Judge bench.old)
-        (outside W.Outside W.Files.own world.old O.Sink out.old) (outside W.Outside W.Files.own world.new O.Sink out.new)
+        (outside W.Outside world.old O.Sink out.old) (outside W.Outside world.new O.Sink out.new)
         (judging J.Judge bench.old) (judging J.Judge bench.new) (W.Disk.has_failed world.new) result }
     ensures others { drop settings.now.workers bench.new.judges ≡ drop settings.now.workers bench.old.judges }
     ensures silent { asks_test settings.now.test ≡ false → bench.new.judges ≡ bench.old.judges }
@@ -129,7 +129,7 @@ fn run_by_formula<R: Threads + Wait + Sync, W: Files + Disk, J: Judge + Send + D
     requires formula { IsFormula settings.now.test }
     requires spelled { Spells (word_of settings.now.test) (form_of formula.now) }
     ensures runs { RunsAsked settings.now modes (says_of J.Judge bench.old)
-        (outside W.Outside W.Files.own world.old O.Sink out.old) (outside W.Outside W.Files.own world.new O.Sink out.new)
+        (outside W.Outside world.old O.Sink out.old) (outside W.Outside world.new O.Sink out.new)
         (judging J.Judge bench.old) (judging J.Judge bench.new) (W.Disk.has_failed world.new) result }
     ensures others { drop settings.now.workers bench.new.judges ≡ drop settings.now.workers bench.old.judges }
     ensures silent { bench.new.judges ≡ bench.old.judges }

@@ -41,7 +41,7 @@ where
     requires binds { (bytes : List ℕ) → L.lawful task.now.law.now bytes → A.binds task.now.asking.now bytes }
     ensures runs { RunsBound (record { Lawful = L.lawful task.now.law.now; Against = L.reasons task.now.law.now }) (task_at P.Passes L.Law A.Asking task.now (says_of J.Judge bench.old))
         (λ bytes. by_epochs (task_at P.Passes L.Law A.Asking task.now (says_of J.Judge bench.old) bytes)) (name_of source.now) (text_of source.now (files_told (F.story files.old)))
-        (outside F.Outside F.Files.own files.old O.Sink out.old) (outside F.Outside F.Files.own files.new O.Sink out.new)
+        (outside F.Outside files.old O.Sink out.old) (outside F.Outside files.new O.Sink out.new)
         (judging J.Judge bench.old) (judging J.Judge bench.new) result }
     ensures others { drop task.now.workers bench.new.judges ≡ drop task.now.workers bench.old.judges }
     ensures silent { A.asks task.now.asking.now ≡ false → bench.new.judges ≡ bench.old.judges }
@@ -81,7 +81,7 @@ where
     requires binds { (bytes : List ℕ) → L.lawful task.now.law.now bytes → A.binds task.now.asking.now bytes }
     ensures runs { RunsBound (record { Lawful = L.lawful task.now.law.now; Against = L.reasons task.now.law.now }) (task_at P.Passes L.Law A.Asking task.now (says_of J.Judge bench.old))
         (λ bytes. by_standing (task_at P.Passes L.Law A.Asking task.now (says_of J.Judge bench.old) bytes)) (name_of source.now) (text_of source.now (files_told (F.story files.old)))
-        (outside F.Outside F.Files.own files.old O.Sink out.old) (outside F.Outside F.Files.own files.new O.Sink out.new)
+        (outside F.Outside files.old O.Sink out.old) (outside F.Outside files.new O.Sink out.new)
         (judging J.Judge bench.old) (judging J.Judge bench.new) result }
     ensures others { drop task.now.workers bench.new.judges ≡ drop task.now.workers bench.old.judges }
     ensures silent { A.asks task.now.asking.now ≡ false → bench.new.judges ≡ bench.old.judges }

@@ -32,7 +32,7 @@ pub fn run_given<R: Threads + Sync, F: Files, J: Judge + Send, O: Sink>(
     requires runnable { IsRunnable (length bench.old.judges) settings.now }
     ensures runs { (own : List ℕ) × IsOwnName (name_of settings.now.source) own
         × RunsTask (task_of settings.now (says_of J.Judge bench.old) own) (text_of settings.now.source (files_told (F.story files.old)))
-        (outside F.Outside F.Files.own files.old O.Sink out.old) (outside F.Outside F.Files.own files.new O.Sink out.new)
+        (outside F.Outside files.old O.Sink out.old) (outside F.Outside files.new O.Sink out.new)
         (judging J.Judge bench.old) (judging J.Judge bench.new) result }
     ensures others { drop settings.now.workers bench.new.judges ≡ drop settings.now.workers bench.old.judges }
     ensures silent { asks_test settings.now.test ≡ false → bench.new.judges ≡ bench.old.judges }
@@ -80,7 +80,7 @@ where
     ensures runs { (own : List ℕ) × IsOwnName (name_of settings.now.source) own
         × RunsPlain (asked_by (record { Lawful = L.lawful law.now; Against = L.reasons law.now }) (A.asks asking.now) (λ bytes. A.tells (A.key asking.now bytes))
         settings.now (says_of J.Judge bench.old) own) settings.now.source
-        (outside F.Outside F.Files.own files.old O.Sink out.old) (outside F.Outside F.Files.own files.new O.Sink out.new)
+        (outside F.Outside files.old O.Sink out.old) (outside F.Outside files.new O.Sink out.new)
         (judging J.Judge bench.old) (judging J.Judge bench.new) result }
     ensures others { drop settings.now.workers bench.new.judges ≡ drop settings.now.workers bench.old.judges }
     ensures silent { A.asks asking.now ≡ false → bench.new.judges ≡ bench.old.judges }
@@ -118,7 +118,7 @@ where
     ensures runs { (own : List ℕ) × IsOwnName (name_of settings.now.source) own
         × RunsIn modes.engine (asked_by (law_by modes.any_order (limits_of settings.now.steps)) (A.asks asking.now) (λ bytes. A.tells (A.key asking.now bytes)) settings.now (says_of J.Judge bench.old) own)
         (marks_of settings.now) settings.now.source
-        (outside W.Outside W.Files.own world.old O.Sink out.old) (outside W.Outside W.Files.own world.new O.Sink out.new)
+        (outside W.Outside world.old O.Sink out.old) (outside W.Outside world.new O.Sink out.new)
         (judging J.Judge bench.old) (judging J.Judge bench.new) (W.Disk.has_failed world.new) result }
     ensures others { drop settings.now.workers bench.new.judges ≡ drop settings.now.workers bench.old.judges }
     ensures silent { A.asks asking.now ≡ false → bench.new.judges ≡ bench.old.judges }
@@ -189,7 +189,7 @@ where
     ensures runs { (own : List ℕ) × IsOwnName (name_of settings.now.source) own
         × RunsIn engine (asked_by (record { Lawful = L.lawful law.now; Against = L.reasons law.now }) (A.asks asking.now) (λ bytes. A.tells (A.key asking.now bytes))
         settings.now (says_of J.Judge bench.old) own) (marks_of settings.now) settings.now.source
-        (outside W.Outside W.Files.own world.old O.Sink out.old) (outside W.Outside W.Files.own world.new O.Sink out.new)
+        (outside W.Outside world.old O.Sink out.old) (outside W.Outside world.new O.Sink out.new)
         (judging J.Judge bench.old) (judging J.Judge bench.new) (W.Disk.has_failed world.new) result }
     ensures others { drop settings.now.workers bench.new.judges ≡ drop settings.now.workers bench.old.judges }
     ensures silent { A.asks asking.now ≡ false → bench.new.judges ≡ bench.old.judges }
@@ -227,7 +227,7 @@ where
     ensures runs { RunsIn engine (asked_by (record { Lawful = L.lawful task.now.law.now; Against = L.reasons task.now.law.now }) (A.asks task.now.asking.now)
         (λ bytes. A.tells (A.key task.now.asking.now bytes)) settings.now (says_of J.Judge bench.old) task.now.own.now)
         (marks_of settings.now) settings.now.source
-        (outside W.Outside W.Files.own world.old O.Sink out.old) (outside W.Outside W.Files.own world.new O.Sink out.new)
+        (outside W.Outside world.old O.Sink out.old) (outside W.Outside world.new O.Sink out.new)
         (judging J.Judge bench.old) (judging J.Judge bench.new) (W.Disk.has_failed world.new) result }
     ensures others { drop settings.now.workers bench.new.judges ≡ drop settings.now.workers bench.old.judges }
     ensures silent { A.asks task.now.asking.now ≡ false → bench.new.judges ≡ bench.old.judges }

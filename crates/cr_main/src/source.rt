@@ -20,9 +20,9 @@ pub fn open_source<L: Law, F: Files, O: Sink>(
     requires law { IsOfPrograms (L.lawful law.now) (L.reasons law.now) }
     requires makeable { IsMakeable source.now }
     ensures opened { IfOk result (λ bytes. IsOpened (record { Lawful = L.lawful law.now; Against = L.reasons law.now }) (text_of source.now (files_told (F.story files.old)))
-        (outside F.Outside F.Files.own files.old O.Sink out.old) (outside F.Outside F.Files.own files.new O.Sink out.new) bytes.items) }
+        (outside F.Outside files.old O.Sink out.old) (outside F.Outside files.new O.Sink out.new) bytes.items) }
     ensures unopened { IfErr result (λ status. Unopened (record { Lawful = L.lawful law.now; Against = L.reasons law.now }) (name_of source.now) (text_of source.now (files_told (F.story files.old)))
-        (outside F.Outside F.Files.own files.old O.Sink out.old) (outside F.Outside F.Files.own files.new O.Sink out.new) status) }
+        (outside F.Outside files.old O.Sink out.old) (outside F.Outside files.new O.Sink out.new) status) }
 {
     let name = source_name(source);
     match source {

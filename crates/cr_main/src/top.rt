@@ -22,21 +22,21 @@ pub fn run<R: Threads + Sync, F: Files, J: Judge + Send, O: Sink>(
 ) -> u8
     // Each status comes exactly at its place and with its cause.
     ensures runs { Runs (texts_of list.now) (length bench.old.judges) (says_of J.Judge bench.old)
-        (outside F.Outside F.Files.own files.old O.Sink out.old) (outside F.Outside F.Files.own files.new O.Sink out.new)
+        (outside F.Outside files.old O.Sink out.old) (outside F.Outside files.new O.Sink out.new)
         (judging J.Judge bench.old) (judging J.Judge bench.new) result }
 
     // At 0 and 7 the headline holds.
     ensures headline { (result ≡ 0) ⊎ (result ≡ 7) → IsHeadline (texts_of list.now) (length bench.old.judges) (says_of J.Judge bench.old)
-        (outside F.Outside F.Files.own files.old O.Sink out.old) (outside F.Outside F.Files.own files.new O.Sink out.new)
+        (outside F.Outside files.old O.Sink out.old) (outside F.Outside files.new O.Sink out.new)
         (judging J.Judge bench.old) (judging J.Judge bench.new) result }
 
     // At 8 from the reduction, and at 10, the files are those of the reduction as far as it went.
     ensures finished { (result ≡ 8) ⊎ (result ≡ 10) → HasEnded (texts_of list.now) (length bench.old.judges) (says_of J.Judge bench.old)
-        (outside F.Outside F.Files.own files.old O.Sink out.old) (outside F.Outside F.Files.own files.new O.Sink out.new) result }
+        (outside F.Outside files.old O.Sink out.old) (outside F.Outside files.new O.Sink out.new) result }
 
     // At every status the file holds its old bytes, or the result's with the bytes read in its copy.
     ensures files_kept { KeepsFiles (texts_of list.now) (length bench.old.judges) (says_of J.Judge bench.old)
-        (outside F.Outside F.Files.own files.old O.Sink out.old) (outside F.Outside F.Files.own files.new O.Sink out.new) (judging J.Judge bench.new) }
+        (outside F.Outside files.old O.Sink out.old) (outside F.Outside files.new O.Sink out.new) (judging J.Judge bench.new) }
 
     // At 9 no call on the files follows the one that failed, where the files tell their calls.
     ensures fault_last { result ≡ 9 → EndsWithFault (F.story files.old) (F.story files.new) }
@@ -46,12 +46,12 @@ pub fn run<R: Threads + Sync, F: Files, J: Judge + Send, O: Sink>(
     ensures journal_kept { KeepsJournal (F.story files.old) (F.story files.new) }
 
     // The test is asked about nothing but the file and smaller, lawful variants of the chain's files, and how often is bounded.
-    ensures asks_only { AsksOnly (texts_of list.now) (length bench.old.judges) (says_of J.Judge bench.old) (outside F.Outside F.Files.own files.old O.Sink out.old)
+    ensures asks_only { AsksOnly (texts_of list.now) (length bench.old.judges) (says_of J.Judge bench.old) (outside F.Outside files.old O.Sink out.old)
         (judging J.Judge bench.old) (judging J.Judge bench.new) }
 
     // Completeness: with all that it needs, it ends with 0, or for want of memory.
     ensures completes { Completes (texts_of list.now) (length bench.old.judges) (says_of J.Judge bench.old)
-        (outside F.Outside F.Files.own files.old O.Sink out.old) (outside F.Outside F.Files.own files.new O.Sink out.new)
+        (outside F.Outside files.old O.Sink out.old) (outside F.Outside files.new O.Sink out.new)
         (judging J.Judge bench.old) (judging J.Judge bench.new) result }
 
     // Workers beyond those that the words ask for do nothing.

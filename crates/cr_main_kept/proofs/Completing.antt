@@ -33,7 +33,8 @@ use Rattle.cr_main_kept.specs.Kept.StartsOn.{begun, stopped, unbegun}
 use Rattle.cr_main_kept.specs.KeptTask.{KeptTask, at}
 use Rattle.cr_main_kept.specs.Lines.{IsDiskFault, fault_line}
 use Rattle.cr_main_kept.specs.declared.header.Marks.{Marks}
-use Rattle.cr_main_kept.proofs.Promises.{journal_leaves, kept_promises}
+use Rattle.cr_main_kept.proofs.Promises.{kept_promises}
+use Rattle.cr_main_kept.proofs.Stories.{may_keep_files}
 use Rattle.cr_main_task.specs.Beginning.{StopsEarly}
 use Rattle.cr_main_task.specs.Beginning.StopsEarly.{not_copied, refused, wanting}
 use Rattle.cr_main_task.specs.Headline.{enough_for}
@@ -122,7 +123,7 @@ module _ (k : KeptTask) (bytes : List ℕ) (old new : Outside) (before after : J
   stops_spared saves read status (wanting asked files told silent is) = inl (inr is)
   stops_spared saves read status (not_copied answered wrong) = by_fault status (fails_status saves read new (copy_name k.name) status wrong.fails)
 
-  pub fault_spared : (from : Outside) (why : JournalFault) (status : ℕ) → IsDiskFault why has_failed → Stops from new k.name why status → IsSpared status
+  pub fault_spared : (from : Outside) (why : JournalFault) (status : ℕ) → IsDiskFault why from.faults new.faults has_failed → Stops from new k.name why status → IsSpared status
   fault_spared from journal_fault.NoMemory status cause stops = inl (inr stops.1)
   fault_spared from journal_fault.Disk status cause stops = by_disk status (put_status from new (fault_line k.name) 12 status stops)
   fault_spared from (journal_fault.Bad n) status cause stops = absurd cause
@@ -140,9 +141,9 @@ module _ (k : KeptTask) (bytes : List ℕ) (old new : Outside) (before after : J
 
   starts_spared : (marks : Marks) (read : Outside) (status : ℕ) → read.output_faults ≡ old.output_faults → StartsOn (at k bytes) marks bytes read new before after has_failed status → IsSpared status
   starts_spared marks read status same (stopped stops) = stops_spared k.saves read status stops
-  starts_spared marks read status same (unbegun copied size why begins journal cause stops) = fault_spared copied why status cause stops
-  starts_spared marks read status same (begun copied started since size kept begins journalled rests is_first ends) =
-      ended_spared started since kept size status (journalled.output_faults ∙ begins.copied.output_faults ∙ same) begins.answered.asked.goes_on
+  starts_spared marks read status same (unbegun copied ready size why begins opens journal cause stops) = fault_spared copied why status cause stops
+  starts_spared marks read status same (begun copied ready started since size kept begins opens journalled rests is_first ends) =
+      ended_spared started since kept size status (journalled.output_faults ∙ opens.output_faults ∙ begins.copied.output_faults ∙ same) begins.answered.asked.goes_on
       (λ end. first_in_time since kept size end begins.sized is_first) ends
 
   pub first_spared : (marks : Marks) (from : Outside) (status : ℕ) → from.output_faults ≡ old.output_faults → ((other : List ℕ) → FileHas (files_told from.story) k.name other → other ≡ bytes)
@@ -171,9 +172,9 @@ module _ (k : KeptTask) (bytes : List ℕ) (old new : Outside) (before after : J
   journal_spared : (marks : Marks) (status : ℕ) → IsUnbegun k.name bytes old.story → RunsJournal k marks old new before after has_failed status → IsSpared status
   journal_spared marks status fresh_file (unstarted why cause same quiet stops) = fault_spared old why status cause stops
   journal_spared marks status fresh_file (found len length_is not_0 same quiet said) = absurd (not_0 (sym (long_by old.story fresh_file.story len fresh_file.is length_is) ∙ fresh_file.empty))
-  journal_spared marks status fresh_file (fresh started empty journalled none runs) =
-      let files_are : files_told started.story ≡ Some (files_now fresh_file.story) = journal_leaves _ old.story started.story journalled.journal ∙ ap files_told fresh_file.is in
-      first_spared marks started status journalled.output_faults (there_by (files_told started.story) (files_now fresh_file.story) files_are fresh_file.has)
+  journal_spared marks status fresh_file (fresh started empty opens none runs) =
+      let files_are : files_told started.story ≡ Some (files_now fresh_file.story) = may_keep_files k.name old.story started.story (inr opens.story) ∙ ap files_told fresh_file.is in
+      first_spared marks started status opens.output_faults (there_by (files_told started.story) (files_now fresh_file.story) files_are fresh_file.has)
       (here_by (files_told started.story) (files_now fresh_file.story) files_are fresh_file.has) runs
 
   -- neither the files nor the disk failed
@@ -185,5 +186,5 @@ module _ (k : KeptTask) (bytes : List ℕ) (old new : Outside) (before after : J
   pub journal_free : (marks : Marks) (status : ℕ) → k.saves ≡ true → IsUnbegun k.name bytes old.story → RunsJournal k marks old new before after has_failed status → IsFree status
   journal_free marks status saves fresh_file runs =
       let promises = kept_promises k marks old new before after has_failed status saves (inl runs) in
-      spared_free status (λ nine. all.no_file_fault (promises.fault_last nine)) (λ twelve. let failed = (promises.failed twelve).0 in let fine = all.no_disk_fault in cc (sym failed ∙ fine))
+      spared_free status (λ nine. all.no_file_fault (promises.fault_last nine)) (λ twelve. let failed = (promises.failed twelve).0.1 in let fine = all.no_disk_fault in cc (sym failed ∙ fine))
       (journal_spared marks status fresh_file runs)

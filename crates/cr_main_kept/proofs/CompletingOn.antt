@@ -1,6 +1,6 @@
 -- Completeness of a run that goes on with what a stopped one has left.
 use Rattle.std.proofs.Common.{◌≡◌, inl, inr, ℕ, zero, suc, ◌*◌, ◌<◌, ◌≤◌, ◌^◌, Bool, true, false, List, [], ◌∷◌, ◌++◌, All, map, length, get_or, Option, Some, None, Err, refl, sym, ap, subst, ◌∙◌, arith, length-append}
-use Rattle.std.proofs.lemmas.List.{append-nil}
+use Rattle.std.proofs.lemmas.List.{append-nil, length-map}
 use Rattle.cr_journal.specs.Keeping.{IsReductionOn}
 use Rattle.cr_journal.specs.Laws.{chain_in, most_turns}
 use Rattle.cr_journal.proofs.Led.{accepted_follows}
@@ -13,7 +13,7 @@ use Rattle.cr_journal_rows.proofs.Codec.{one_header}
 use Rattle.cr_journal_stops.specs.Stops.{SafeTold}
 use Rattle.cr_outside.specs.Story.{Story, changes_of, files_told}
 use Rattle.cr_outside.specs.declared.story.Outcome.TheVariants as called
-use Rattle.cr_outside_disk.specs.Moments.{EveryTold, seen}
+use Rattle.cr_outside_disk.specs.Moments.{EveryTold, HasLength, seen}
 use Rattle.cr_outside_disk.proofs.Images.{seen_is_image}
 use Rattle.cr_reduce.specs.Bench.{Judging}
 use Rattle.cr_reduce.specs.Bound.{HasLevels, enough_turns}
@@ -34,19 +34,19 @@ use Rattle.cr_replay.specs.Chains.{BreaksAt}
 use Rattle.cr_replay.proofs.Apart.{never_both}
 use Rattle.cr_main_kept.specs.Completing.{CompletesFirst, CompletesOn, HasAllOn}
 use Rattle.cr_main_kept.specs.Header.{Fits, MarksFit, header_of}
-use Rattle.cr_main_kept.specs.Kept.{FileBegins, FollowsOn, RunsFurther, RunsJournal, RunsResume, Stops}
-use Rattle.cr_main_kept.specs.Kept.FollowsOn.{closed, differs, followed, stopped}
+use Rattle.cr_main_kept.specs.Kept.{FileBegins, FollowsOn, IsOpening, IsShrunk, RunsFurther, RunsJournal, RunsResume, Stops}
+use Rattle.cr_main_kept.specs.Kept.FollowsOn.{closed, differs, followed, shrunk, stopped}
 use Rattle.cr_main_kept.specs.Kept.LacksCopy.{not_there, unread, wanting}
 use Rattle.cr_main_kept.specs.Kept.RunsFurther.{foreign, lawful, ruled_out, starved, uncopied}
-use Rattle.cr_main_kept.specs.Kept.RunsResume.{anew, further, unrecovered}
+use Rattle.cr_main_kept.specs.Kept.RunsResume.{anew, further, unrecovered, unstarted}
 use Rattle.cr_main_kept.specs.KeptTask.{KeptTask, at}
-use Rattle.cr_main_kept.specs.Lines.{fault_line}
+use Rattle.cr_main_kept.specs.Lines.{fault_line, journal_name}
 use Rattle.cr_main_kept.specs.Surviving.{IsSafeFor, IsWhole, records_of}
 use Rattle.cr_main_kept.specs.declared.header.Marks.{Marks}
 use Rattle.cr_main_kept.proofs.Completing.{IsSpared, by_disk, by_fault, ended_spared, fault_spared, first_spared, journal_free, spared_free, stops_spared, within_time}
 use Rattle.cr_main_kept.proofs.Promises.{kept_promises}
-use Rattle.cr_main_kept.proofs.Stories.{every_read}
-use Rattle.cr_main_kept.proofs.Surviving.{FitAll, IsStory, begins_whole, come_first, copy_there, file_there, first_everywhere, front_of_kept, goes_from, now_safe, one_content, read_stays, recovered_stays, rest_first, rows_fit, rows_front, same_outcome, still_story}
+use Rattle.cr_main_kept.proofs.Stories.{every_read, length_opened, rests_long}
+use Rattle.cr_main_kept.proofs.Surviving.{FitAll, IsStory, begins_whole, come_first, copy_there, file_there, first_everywhere, front_of_kept, goes_from, now_safe, one_content, opened_stays, read_stays, rest_first, rows_fit, rows_front, same_outcome, still_story}
 use Rattle.cr_main_task.specs.Headline.{enough_for}
 use Rattle.cr_main_task.specs.Messages.{copy_name}
 use Rattle.cr_main_task.specs.Outside.{Outside}
@@ -147,6 +147,18 @@ module _ (k : KeptTask) (marks : Marks) (bytes : List ℕ) (size : ℕ) (out : O
         size = λ n sized. size_is ∙ one_size bytes size n whole.sized sized;
       }
 
+  -- a journal that stands at rest hasn't become shorter
+  long_enough : (header : Header) (rows : List Accepted) (n len : ℕ) (told : Option Story) → IsStory told → EveryTold (AtRest (bodies_of header rows)) told → HasLength told len → IsShrunk (length rows) len n → ⊥
+  long_enough header rows n len None is rests long gone = absurd is
+  long_enough header rows n len (Some s) is rests long gone =
+      omega (arith, gone.within, gone.gone, length-map rows row_body, rests_long (bodies_of header rows) s len rests long)
+
+  never_shrunk : (header : Header) (rows : List Accepted) (n len : ℕ) (read asked last : Option Story) → IsStory read → EveryTold (AtRest (bodies_of header rows)) read → asked ≡ read → IsOpening k.name asked last
+      → HasLength last len → IsShrunk (length rows) len n → ⊥
+  never_shrunk header rows n len read asked last is rests same opens long gone =
+      long_enough header rows n len asked (subst IsStory (sym same) is) (subst (EveryTold (AtRest (bodies_of header rows))) (sym same) rests)
+      (length_opened asked (journal_name k.name) len (subst (λ (m : Option Story). HasLength m len) opens long)) gone
+
   -- ---- the run
 
   follows_spared : (header : Header) (rows : List Accepted) (read : Outside) (status : ℕ) → read.output_faults ≡ old.output_faults → IsStory read.story → Safe read.story → EveryTold (AtRest (bodies_of header rows)) read.story
@@ -154,8 +166,10 @@ module _ (k : KeptTask) (marks : Marks) (bytes : List ℕ) (size : ℕ) (out : O
   follows_spared header rows read status same told safe rests fits (stopped stops) =
       stops_spared k bytes old new before after has_failed all levels has bytes_enough apart false read status stops
   follows_spared header rows read status same told safe rests fits (differs asked old_size i begins breaks below unmoved said) = absurd (never_breaks header rows i read.story told safe rests fits below breaks)
-  follows_spared header rows read status same told safe rests fits (closed asked old_size why begins unmoved cause stops) =
+  follows_spared header rows read status same told safe rests fits (closed asked old_size why begins opens cause stops) =
       fault_spared k bytes old new before after has_failed all levels has bytes_enough apart asked why status cause stops
+  follows_spared header rows read status same told safe rests fits (shrunk asked old_size len n begins opens long gone said) =
+      absurd (never_shrunk header rows n len read.story asked.story new.story told rests begins.copied.story opens long gone)
   follows_spared header rows read status same told safe rests fits (followed asked started since old_size kept begins replayed below reopened ends) =
       let front : Front kept.accepted.items out.accepted = subst (λ (l : List Accepted). Front l out.accepted) (sym replayed.same) (rows_come_first header rows read.story told safe rests fits below) in
       let goes = goes_from k marks bytes size out whole saves of_programs one excluded sixteen kept replayed.is_kept front in
@@ -216,16 +230,18 @@ module _ (k : KeptTask) (marks : Marks) (bytes : List ℕ) (size : ℕ) (out : O
   file_lacks (Some s) is has_it lacks = cc (sym has_it ∙ lacks)
 
   resume_spared : (status : ℕ) → IsStory old.story → Safe old.story → RunsResume k marks old new before after has_failed status → IsSpared status
-  resume_spared status told safe (unrecovered why recovers never cause journal quiet stops) = unrecovered_spared why status told safe recovers never stops
-  resume_spared status told safe (anew started recovers journalled none runs) =
-      let stays = recovered_stays k marks bytes size out whole saves of_programs one excluded sixteen old.story started.story safe journalled.journal in
+  resume_spared status told safe (unstarted why cause opens quiet stops) =
+      fault_spared k bytes old new before after has_failed all levels has bytes_enough apart old why status cause stops
+  resume_spared status told safe (unrecovered opened why recovers never cause opens journal quiet stops) = unrecovered_spared why status told safe recovers never stops
+  resume_spared status told safe (anew opened started recovers opens journalled none runs) =
+      let stays = opened_stays k marks bytes size out whole saves of_programs one excluded sixteen old.story opened.story started.story safe opens.story journalled.journal in
       let is_told = still_story k marks bytes size out whole saves of_programs one excluded sixteen old.story started.story stays told in
       let file_is = file_there k marks bytes size out whole saves of_programs one excluded sixteen started.story (now_safe k marks bytes size out whole saves of_programs one excluded sixteen old.story started.story stays) none in
-      first_spared k bytes old new before after has_failed all levels has bytes_enough apart marks started status journalled.output_faults
+      first_spared k bytes old new before after has_failed all levels has bytes_enough apart marks started status (journalled.output_faults ∙ opens.output_faults)
       (λ other it. one_content started.story k.name other bytes is_told it file_is) (file_lacks started.story is_told file_is) runs
-  resume_spared status told safe (further started header rows recovers journalled rests fits runs) =
-      let stays = recovered_stays k marks bytes size out whole saves of_programs one excluded sixteen old.story started.story safe journalled.journal in
-      further_spared header rows.items started status journalled.output_faults (still_story k marks bytes size out whole saves of_programs one excluded sixteen old.story started.story stays told)
+  resume_spared status told safe (further opened started header rows recovers opens journalled rests fits runs) =
+      let stays = opened_stays k marks bytes size out whole saves of_programs one excluded sixteen old.story opened.story started.story safe opens.story journalled.journal in
+      further_spared header rows.items started status (journalled.output_faults ∙ opens.output_faults) (still_story k marks bytes size out whole saves of_programs one excluded sixteen old.story started.story stays told)
       (now_safe k marks bytes size out whole saves of_programs one excluded sixteen old.story started.story stays) rests fits runs
 
   pub resume_free : (status : ℕ) (first : Story) → old.story ≡ Some first → IsSafeFor t marks bytes size out first → RunsResume k marks old new before after has_failed status → IsFree status
@@ -234,7 +250,7 @@ module _ (k : KeptTask) (marks : Marks) (bytes : List ℕ) (size : ℕ) (out : O
       let told : IsStory old.story = subst IsStory (sym is) tt in
       let safe_now : Safe old.story = subst (λ (m : Option Story). Safe m) (sym is) safe in
       spared_free k bytes old new before after has_failed all levels has bytes_enough apart status (λ nine. all.no_file_fault (promises.fault_last nine))
-      (λ twelve. let failed = (promises.failed twelve).0 in let fine = all.no_disk_fault in cc (sym failed ∙ fine)) (resume_spared status told safe_now runs)
+      (λ twelve. let failed = (promises.failed twelve).0.1 in let fine = all.no_disk_fault in cc (sym failed ∙ fine)) (resume_spared status told safe_now runs)
 
 -- Completeness of the two runs, where the passes have these levels, and the question doesn't tell both answers.
 module _ (k : KeptTask) (marks : Marks) (old new : Outside) (before after : Judging) (has_failed : Bool) (status : ℕ) (saves : k.saves ≡ true)

@@ -15,6 +15,6 @@ module _ (name copy : List ℕ) (old new : Outside) (status : ℕ) (is : copy �
   copy_gone gone calls said =
       not_there (subst (FileLacks (files_told old.story)) is gone) (subst (λ (n : List ℕ). IsRead n outcome.Absent old.story new.story) is calls) (subst (λ (n : List ℕ). Refuses old new n refusal.NoFile status) is said)
 
-  pub copy_unread : Rose old.file_faults new.file_faults → IsRead copy outcome.Failed old.story new.story → Refuses old new copy refusal.FileFault status → LacksCopy name old new status
+  pub copy_unread : Rose old.faults new.faults → IsRead copy outcome.Failed old.story new.story → Refuses old new copy refusal.FileFault status → LacksCopy name old new status
   copy_unread rose calls said =
       unread rose (subst (λ (n : List ℕ). IsRead n outcome.Failed old.story new.story) is calls) (subst (λ (n : List ℕ). Refuses old new n refusal.FileFault status) is said)

@@ -1,3 +1,4 @@
+pub mod Naming
 pub mod Headers
 pub mod Stories
 pub mod Ends
@@ -7,3 +8,4 @@ pub mod Promises
 pub mod Surviving
 pub mod Completing
 pub mod CompletingOn
+pub mod Touching

@@ -12,6 +12,8 @@ use Rattle.cr_outside.specs.Story.Event.{Changed, Read, Wrote}
 use Rattle.cr_outside.specs.declared.files.FileFault.TheVariants as fault
 use Rattle.cr_outside.specs.declared.story.Outcome.{Outcome}
 use Rattle.cr_outside.specs.declared.story.Outcome.TheVariants as outcome
+use Rattle.cr_outside.specs.Faults.{Rose}
+use Rattle.cr_outside.proofs.Counts.{rose_earlier}
 use Rattle.cr_outside.proofs.Stories.{fault_last, goes_event, goes_further, goes_nowhere, write_leaves}
 use Rattle.cr_outside_disk.specs.Moments.{EveryTold, LastsTold, after_changes}
 use Rattle.cr_reduce.specs.Bench.{AsksAtMost, CallsAbout, Judging}
@@ -24,17 +26,17 @@ use Rattle.cr_reduce.specs.declared.end.Kept.{Kept}
 use Rattle.cr_reduce.specs.declared.end.Why.{Why}
 use Rattle.cr_reduce.specs.declared.end.Why.TheVariants as why
 use Rattle.cr_main_kept.specs.Header.{Fits, header_of}
-use Rattle.cr_main_kept.specs.Kept.{EndsKept, FollowsOn, HasKeptAll, Journals, RunsFirst, RunsFurther, RunsJournal, RunsResume, StartsOn, Stops, asking}
+use Rattle.cr_main_kept.specs.Kept.{AnyRecords, EndsKept, FollowsOn, HasKeptAll, HasOpened, IsJournalled, Journals, RunsFirst, RunsFurther, RunsJournal, RunsResume, StartsOn, Stops, asking}
 use Rattle.cr_main_kept.specs.Kept.EndsKept.{concluded, cut_off}
 use Rattle.cr_main_kept.specs.Kept.RunsFirst.{opened as first_opened, unopened}
 use Rattle.cr_main_kept.specs.Kept.StartsOn.{begun, stopped, unbegun}
-use Rattle.cr_main_kept.specs.Kept.FollowsOn.{closed, differs, followed, stopped as on_stopped}
+use Rattle.cr_main_kept.specs.Kept.FollowsOn.{closed, differs, followed, shrunk, stopped as on_stopped}
 use Rattle.cr_main_kept.specs.Kept.LacksCopy.{not_there, unread, wanting}
 use Rattle.cr_main_kept.specs.Kept.RunsFurther.{foreign, lawful, ruled_out, starved, uncopied}
 use Rattle.cr_main_kept.specs.Kept.RunsJournal.{found, fresh, unstarted}
-use Rattle.cr_main_kept.specs.Kept.RunsResume.{anew, further, unrecovered}
+use Rattle.cr_main_kept.specs.Kept.RunsResume.{anew, further, unrecovered, unstarted as on_unstarted}
 use Rattle.cr_main_kept.specs.KeptTask.{KeptTask, at}
-use Rattle.cr_main_kept.specs.Lines.{IsDiskFault, fault_line, refused_line}
+use Rattle.cr_main_kept.specs.Lines.{DiskFailed, IsDiskFault, fault_line, journal_name, refused_line}
 use Rattle.cr_main_kept.specs.Promises.{AsksOnlyOn, BeginsAt, CopiesAtMost, EndsOn, HasGiven, HasReducedOn, KeepsFilesOn, PromisesOn, WroteOn}
 use Rattle.cr_main_kept.specs.Promises.AsksOnlyOn.{asks_file_on, asks_nothing_on, asks_variants_on}
 use Rattle.cr_main_kept.specs.Promises.EndsOn.{finished_on, untested_on}
@@ -56,8 +58,9 @@ use Rattle.cr_main_task.specs.Run.HasAsked.{asked_file, asked_nothing}
 use Rattle.cr_main_task.specs.Task.{FileHas, IsRead, Task, Text, given, most_read, stored}
 use Rattle.cr_main_task.specs.declared.messages.Refusal.{Refusal}
 use Rattle.cr_main_task.specs.declared.messages.Refusal.TheVariants as refusal
-use Rattle.cr_main_kept.proofs.Stories.{every_read, every_saved}
+use Rattle.cr_main_kept.proofs.Stories.{every_opened, every_read, every_saved, may_go_on, may_keep_files}
 use Rattle.cr_main_task.proofs.Calls.{read_fails, read_goes_on}
+use Rattle.cr_main_task.proofs.Rising.{conclude_rose, save_rose}
 use Rattle.cr_main_task.proofs.Statuses.{fails_status, put_status, reason_is}
 
 -- ---- statuses
@@ -261,6 +264,7 @@ module _ (k : KeptTask) (marks : Marks) where
     failed = λ e. absurd (other.not_12 e);
     refused = λ e. same;
     files_kept = copied_at_most (inl same);
+    rose = λ e. absurd (other.not_9 e);
     fault_last = λ e. absurd (other.not_9 e);
     failing = other.fails;
     asks_only = asks;
@@ -268,37 +272,40 @@ module _ (k : KeptTask) (marks : Marks) where
 
   -- a call on the files failed, the last
   faulty_promises : (old new : Outside) (before after : Judging) (has_failed : Bool) (status : ℕ) → (status ≡ 9) ⊎ (status ≡ 11) → CopiesAtMost k.name (files_told old.story) (files_told new.story)
-      → (status ≡ 9 → EndsWithFault old.story new.story) → AsksOnlyOn k (files_told old.story) before after → PromisesOn k marks old new before after has_failed status
-  faulty_promises old new before after has_failed status is copies last asks = record {
+      → (status ≡ 9 → Rose old.faults new.faults) → (status ≡ 9 → EndsWithFault old.story new.story) → AsksOnlyOn k (files_told old.story) before after → PromisesOn k marks old new before after has_failed status
+  faulty_promises old new before after has_failed status is copies rose last asks = record {
     ends = λ which. absurd (not_end status 9 is (inl refl) which);
     failed = λ e. absurd (neither status 9 12 is (λ n. omega (arith, n)) (λ n. omega (arith, n)) e);
     refused = λ e. absurd (neither status 9 13 is (λ n. omega (arith, n)) (λ n. omega (arith, n)) e);
     files_kept = copied_at_most copies;
+    rose = rose;
     fault_last = last;
     failing = λ e. absurd (neither status 9 8 is (λ n. omega (arith, n)) (λ n. omega (arith, n)) e);
     asks_only = asks;
   }
 
   -- a call on the journal failed, the last
-  cut_promises : (old new : Outside) (before after : Judging) (has_failed : Bool) (status : ℕ) → (status ≡ 12) ⊎ (status ≡ 11) → (status ≡ 12 → has_failed ≡ true)
+  cut_promises : (old new : Outside) (before after : Judging) (has_failed : Bool) (status : ℕ) → (status ≡ 12) ⊎ (status ≡ 11) → (status ≡ 12 → DiskFailed old.faults new.faults has_failed)
       → CopiesAtMost k.name (files_told old.story) (files_told new.story) → AsksOnlyOn k (files_told old.story) before after → PromisesOn k marks old new before after has_failed status
   cut_promises old new before after has_failed status is cause copies asks = record {
     ends = λ which. absurd (not_end status 12 is (inr refl) which);
     failed = λ e. (cause e, copies);
     refused = λ e. absurd (neither status 12 13 is (λ n. omega (arith, n)) (λ n. omega (arith, n)) e);
     files_kept = copied_at_most copies;
+    rose = λ e. absurd (neither status 12 9 is (λ n. omega (arith, n)) (λ n. omega (arith, n)) e);
     fault_last = λ e. absurd (neither status 12 9 is (λ n. omega (arith, n)) (λ n. omega (arith, n)) e);
     failing = λ e. absurd (neither status 12 8 is (λ n. omega (arith, n)) (λ n. omega (arith, n)) e);
     asks_only = asks;
   }
 
-  -- a fault of the journal, by its cause
-  disk_stops : (old new : Outside) (has_failed : Bool) (reason : JournalFault) (status : ℕ) → IsDiskFault reason has_failed → Stops old new k.name reason status
-      → ((status ≡ 12) ⊎ (status ≡ 11)) × (status ≡ 12 → has_failed ≡ true)
-  disk_stops old new has_failed journal_fault.NoMemory status cause stops = (inr stops.1, λ e. let is = stops.1 in absurd (omega (arith, is, e)))
-  disk_stops old new has_failed journal_fault.Disk status cause stops = (put_status old new (fault_line k.name) 12 status stops, λ e. cause)
-  disk_stops old new has_failed (journal_fault.Bad n) status cause stops = absurd cause
-  disk_stops old new has_failed (journal_fault.Differs n) status cause stops = absurd cause
+  -- a fault of the journal, by its cause, since an earlier time
+  disk_stops : (old new : Outside) (has_failed : Bool) (reason : JournalFault) (status first : ℕ) → first ≤ old.faults → IsDiskFault reason old.faults new.faults has_failed → Stops old new k.name reason status
+      → ((status ≡ 12) ⊎ (status ≡ 11)) × (status ≡ 12 → DiskFailed first new.faults has_failed)
+  disk_stops old new has_failed journal_fault.NoMemory status first below cause stops = (inr stops.1, λ e. let is = stops.1 in absurd (omega (arith, is, e)))
+  disk_stops old new has_failed journal_fault.Disk status first below cause stops =
+      (put_status old new (fault_line k.name) 12 status stops, λ e. (rose_earlier first old.faults new.faults below cause.0, cause.1))
+  disk_stops old new has_failed (journal_fault.Bad n) status first below cause stops = absurd cause
+  disk_stops old new has_failed (journal_fault.Differs n) status first below cause stops = absurd cause
 
   -- ---- from an earlier time on
 
@@ -322,13 +329,14 @@ module _ (k : KeptTask) (marks : Marks) where
     output = puts_since old now new (summary_text_of k.name it.old_size it.size it.end) (end_status it.end.why) 10 status output faults it.output;
   })
 
-  earlier : (old now new : Outside) (before after : Judging) (has_failed : Bool) (status : ℕ) → files_told now.story ≡ files_told old.story → GoesOn old.story now.story → now.output ≡ old.output
+  earlier : (old now new : Outside) (before after : Judging) (has_failed : Bool) (status : ℕ) → files_told now.story ≡ files_told old.story → GoesOn old.story now.story → old.faults ≤ now.faults → now.output ≡ old.output
       → now.output_faults ≡ old.output_faults → PromisesOn k marks now new before after has_failed status → PromisesOn k marks old new before after has_failed status
-  earlier old now new before after has_failed status same on output faults it = record {
+  earlier old now new before after has_failed status same on below output faults it = record {
     ends = λ which. begin_earlier old now new after status same output faults (it.ends which);
-    failed = λ e. let (cause, copies) = it.failed e in (cause, subst (λ (files : Option Names). CopiesAtMost k.name files (files_told new.story)) same copies);
+    failed = λ e. let (cause, copies) = it.failed e in ((rose_earlier old.faults now.faults new.faults below cause.0, cause.1), subst (λ (files : Option Names). CopiesAtMost k.name files (files_told new.story)) same copies);
     refused = λ e. it.refused e ∙ same;
     files_kept = subst (λ (files : Option Names). KeepsFilesOn k files (files_told new.story) after) same it.files_kept;
+    rose = λ e. rose_earlier old.faults now.faults new.faults below (it.rose e);
     fault_last = λ e. fault_further old.story now.story new.story on (it.fault_last e);
     failing = it.failing;
     asks_only = subst (λ (files : Option Names). AsksOnlyOn k files before after) same it.asks_only;
@@ -366,7 +374,7 @@ module _ (k : KeptTask) (marks : Marks) where
   -- the times of a kept reduction: the run's call, and its begin behind what was asked about the bytes
   module _ (saves : k.saves ≡ true) (first : Bool) (old started : Outside) (before since : Judging) (bytes : List ℕ) (kept : Kept) (old_size : ℕ) (has : HasGiven first k.name (files_told old.story) bytes)
       (is_lawful : k.law.Lawful bytes) (begins : BeginsAt first (at k bytes) bytes kept) (old_sized : HasSize bytes old_size) (calls : CallsAbout before.calls since.calls k.own bytes)
-      (few : AsksAtMost 1 before since) (copy : files_told started.story ≡ saved first (copy_name k.name) bytes (files_told old.story)) (on : GoesOn old.story started.story)
+      (few : AsksAtMost 1 before since) (copy : files_told started.story ≡ saved first (copy_name k.name) bytes (files_told old.story)) (on : GoesOn old.story started.story) (below : old.faults ≤ started.faults)
       (output : started.output ≡ old.output) (output_faults : started.output_faults ≡ old.output_faults) (rests : EveryTold (AtRest (bodies_of (header_of marks k.limit old_size) kept.accepted.items)) started.story) where
     reduced_so : (after : Judging) (end : End) → IsReductionOn (at k bytes).search since after k.window k.limit kept end → HasReducedOn (at k bytes) first (files_told old.story) since after bytes kept end
     reduced_so after end reduction = record { has = has; lawful = is_lawful; begins = begins; reduction = reduction }
@@ -436,7 +444,7 @@ module _ (k : KeptTask) (marks : Marks) where
 
     ended : (new : Outside) (after : Judging) (has_failed : Bool) (status : ℕ) → EndsKept (at k bytes) kept old_size started new since after has_failed status → PromisesOn k marks old new before after has_failed status
     ended new after has_failed status (cut_off end is_short reduction journal failed said) =
-        cut_promises old new before after has_failed status (put_status started new _ 12 status said) (λ e. failed)
+        cut_promises old new before after has_failed status (put_status started new _ 12 status said) (λ e. (rose_earlier old.faults started.faults new.faults below failed.0, failed.1))
         (copies_by first bytes (files_told old.story) (files_told new.story) has (journal_leaves _ started.story new.story journal ∙ copy)) (asks_so after end reduction)
     ended new after has_failed status (concluded end reduced size reduction journalled all sized concludes) =
         let same = journal_leaves _ started.story reduced.story journalled.journal in
@@ -447,6 +455,7 @@ module _ (k : KeptTask) (marks : Marks) where
           refused = λ e. absurd (never_above 13 (omega arith) reduced new end size status saving e);
           files_kept = written_on first bytes (log_text_of end size) since kept end (reduced_so after end reduction)
               (writes_on first bytes (files_told old.story) reduced new end old_size size status (same ∙ copy) saving);
+          rose = λ e. conclude_rose true k.name reduced new end old_size size status old.faults (omega (arith, below, journalled.faults)) saving e;
           fault_last = λ e. faults_so reduced new end size status (journal_goes_on _ started.story reduced.story journalled.journal) saving e;
           failing = failing_so reduced new after end size status reduction.cause saving;
           asks_only = asks_so after end reduction;
@@ -491,6 +500,7 @@ module _ (k : KeptTask) (marks : Marks) where
   stops_first bytes old new before after has_failed status has (not_copied answered wrong) =
       faulty_promises old new before after has_failed status (fails_status k.saves old new (copy_name k.name) status wrong.fails)
       (elim (failed_leaves k.saves old new (copy_name k.name) bytes status wrong.fails) [ inl same ↦ inl same | inr put ↦ inr (bytes, has, put.1) ])
+      (λ nine. save_rose k.saves old new (copy_name k.name) status old.faults (omega arith) wrong.fails nine)
       (λ nine. failed_faults k.saves old.story old new (copy_name k.name) bytes status (goes_nowhere old.story) wrong.fails nine)
       (has_asked true bytes old new before after has_failed status has (asked_file bytes answered.asked))
 
@@ -503,6 +513,7 @@ module _ (k : KeptTask) (marks : Marks) where
   stops_asking bytes old new before after has_failed status has (not_copied answered wrong) =
       faulty_promises old new before after has_failed status (fails_status false old new (copy_name k.name) status wrong.fails)
       (elim (failed_leaves false old new (copy_name k.name) bytes status wrong.fails) [ inl same ↦ inl same | inr put ↦ let never = put.0 in cc ])
+      (λ nine. save_rose false old new (copy_name k.name) status old.faults (omega arith) wrong.fails nine)
       (λ nine. failed_faults false old.story old new (copy_name k.name) bytes status (goes_nowhere old.story) wrong.fails nine)
       (asking_asked false bytes old new before after has_failed status has (asked_file bytes answered.asked))
 
@@ -518,7 +529,7 @@ module _ (k : KeptTask) (marks : Marks) where
       (read_leaves k.name outcome.Done old.story new.story calls) (asks_nothing_on quiet)
   not_opened old new before after has_failed status (file_unread rose files calls said) quiet =
       faulty_promises old new before after has_failed status (put_status old new _ 9 status said) (inl (read_leaves k.name outcome.Failed old.story new.story calls))
-      (λ nine. read_fails k.name old.story new.story calls) (asks_nothing_on quiet)
+      (λ nine. rose) (λ nine. read_fails k.name old.story new.story calls) (asks_nothing_on quiet)
   not_opened old new before after has_failed status (file_unopened files (inl calls) mute is) quiet =
       idle_promises old new before after has_failed status (other_by status 11 is other_11) (read_leaves k.name outcome.Done old.story new.story calls) (asks_nothing_on quiet)
   not_opened old new before after has_failed status (file_unopened files (inr calls) mute is) quiet =
@@ -537,22 +548,25 @@ module _ (k : KeptTask) (marks : Marks) where
   from_read : (name : List ℕ) (old read new : Outside) (before after : Judging) (has_failed : Bool) (status : ℕ) → IsRead name outcome.Done old.story read.story → IsUnchanged old read
       → PromisesOn k marks read new before after has_failed status → PromisesOn k marks old new before after has_failed status
   from_read name old read new before after has_failed status calls same it =
-      earlier old read new before after has_failed status (read_leaves name outcome.Done old.story read.story calls) (read_goes_on name outcome.Done old.story read.story calls) same.output same.output_faults it
+      earlier old read new before after has_failed status (read_leaves name outcome.Done old.story read.story calls) (read_goes_on name outcome.Done old.story read.story calls) same.faults same.output same.output_faults it
 
   module _ (saves : k.saves ≡ true) where
     starts_promises : (bytes : List ℕ) (old new : Outside) (before after : Judging) (has_failed : Bool) (status : ℕ) → FileHas (files_told old.story) k.name bytes → k.law.Lawful bytes
         → StartsOn (at k bytes) marks bytes old new before after has_failed status → PromisesOn k marks old new before after has_failed status
     starts_promises bytes old new before after has_failed status has is_lawful (stopped stops) = stops_first bytes old new before after has_failed status has stops
-    starts_promises bytes old new before after has_failed status has is_lawful (unbegun copied size reason started journal cause stops) =
-        let it = disk_stops copied new has_failed reason status cause stops in
+    starts_promises bytes old new before after has_failed status has is_lawful (unbegun copied opened size reason started opens journal cause stops) =
+        let it = disk_stops copied new has_failed reason status old.faults started.copied.faults cause stops in
         cut_promises old new before after has_failed status it.0 it.1
-        (inr (bytes, has, journal_leaves _ copied.story new.story journal ∙ (copy_leaves saves bytes old copied started.copied.story).0))
+        (inr (bytes, has, journal_leaves _ opened new.story journal ∙ may_keep_files k.name copied.story opened opens ∙ (copy_leaves saves bytes old copied started.copied.story).0))
         (asked_so true bytes (files_told old.story) before after has is_lawful started.answered.asked.calls started.answered.asked.few)
-    starts_promises bytes old new before after has_failed status has is_lawful (begun copied started since size kept begins journalled rests is_first ends) =
+    starts_promises bytes old new before after has_failed status has is_lawful (begun copied opened started since size kept begins opens journalled rests is_first ends) =
         let copy = copy_leaves saves bytes old copied begins.copied.story in
         ended saves true old started before since bytes kept size has is_lawful is_first begins.sized begins.answered.asked.calls begins.answered.asked.few
-        (journal_leaves _ copied.story started.story journalled.journal ∙ copy.0) (goes_further old.story copied.story started.story copy.1 (journal_goes_on _ copied.story started.story journalled.journal))
-        (journalled.output ∙ begins.copied.output) (journalled.output_faults ∙ begins.copied.output_faults)
+        (journal_leaves _ opened.story started.story journalled.journal ∙ may_keep_files k.name copied.story opened.story (inr opens.story) ∙ copy.0)
+        (goes_further old.story copied.story started.story copy.1
+        (goes_further copied.story opened.story started.story (may_go_on k.name copied.story opened.story (inr opens.story)) (journal_goes_on _ opened.story started.story journalled.journal)))
+        (omega (arith, begins.copied.faults, opens.faults, journalled.faults)) (journalled.output ∙ opens.output ∙ begins.copied.output)
+        (journalled.output_faults ∙ opens.output_faults ∙ begins.copied.output_faults)
         (subst (λ (accepted : List Accepted). EveryTold (AtRest (bodies_of (header_of marks k.limit size) accepted)) started.story) (sym is_first.none) rests) new after has_failed status ends
 
     first_promises : (old new : Outside) (before after : Judging) (has_failed : Bool) (status : ℕ) → RunsFirst k marks old new before after has_failed status → PromisesOn k marks old new before after has_failed status
@@ -569,17 +583,23 @@ module _ (k : KeptTask) (marks : Marks) where
     on_promises header bytes rows old new before after has_failed status has is_lawful fits rests (differs asked size i begins breaks below same said) =
         idle_promises old new before after has_failed status (either_other status 13 (put_status asked new _ 13 status said) other_13) (ap files_told (same ∙ begins.copied.story))
         (asked_so false bytes (files_told old.story) before after has is_lawful begins.answered.asked.calls begins.answered.asked.few)
-    on_promises header bytes rows old new before after has_failed status has is_lawful fits rests (closed asked size reason begins same cause stops) =
-        let it = disk_stops asked new has_failed reason status cause stops in
-        cut_promises old new before after has_failed status it.0 it.1 (inl (ap files_told (same ∙ begins.copied.story)))
+    on_promises header bytes rows old new before after has_failed status has is_lawful fits rests (closed asked size reason begins opens cause stops) =
+        let it = disk_stops asked new has_failed reason status old.faults begins.copied.faults cause stops in
+        cut_promises old new before after has_failed status it.0 it.1 (inl (may_keep_files k.name asked.story new.story opens ∙ ap files_told begins.copied.story))
+        (asked_so false bytes (files_told old.story) before after has is_lawful begins.answered.asked.calls begins.answered.asked.few)
+    on_promises header bytes rows old new before after has_failed status has is_lawful fits rests (shrunk asked size len n begins opens long gone said) =
+        idle_promises old new before after has_failed status (either_other status 13 (put_status asked new _ 13 status said) other_13)
+        (may_keep_files k.name asked.story new.story (inr opens) ∙ ap files_told begins.copied.story)
         (asked_so false bytes (files_told old.story) before after has is_lawful begins.answered.asked.calls begins.answered.asked.few)
     on_promises header bytes rows old new before after has_failed status has is_lawful fits rests (followed asked started since size kept begins replayed below reopened ends) =
-        let same = reopened.story ∙ begins.copied.story in
+        let all = AtRest (bodies_of header rows) in
         let is : header ≡ header_of marks k.limit size = fits.settings ∙ ap (header_of marks k.limit) (fits.size size begins.sized) in
         ended saves false old started before since bytes kept size has is_lawful (rows, replayed) begins.sized begins.answered.asked.calls begins.answered.asked.few
-        (ap files_told same) (same_goes_on old.story started.story same) (reopened.output ∙ begins.copied.output) (reopened.output_faults ∙ begins.copied.output_faults)
+        (may_keep_files k.name asked.story started.story (inr reopened.story) ∙ ap files_told begins.copied.story)
+        (goes_further old.story asked.story started.story (same_goes_on old.story asked.story begins.copied.story) (may_go_on k.name asked.story started.story (inr reopened.story)))
+        (omega (arith, begins.copied.faults, reopened.faults)) (reopened.output ∙ begins.copied.output) (reopened.output_faults ∙ begins.copied.output_faults)
         (subst (λ (accepted : List Accepted). EveryTold (AtRest (bodies_of (header_of marks k.limit size) accepted)) started.story) (sym replayed.same)
-        (subst (λ (h : Header). EveryTold (AtRest (bodies_of h rows)) started.story) is (subst (EveryTold (AtRest (bodies_of header rows))) (sym same) rests))) new after has_failed status ends
+        (subst (λ (h : Header). EveryTold (AtRest (bodies_of h rows)) started.story) is (subst (EveryTold all) (sym reopened.story) (every_opened all asked.story (journal_name k.name) (subst (EveryTold all) (sym begins.copied.story) rests))))) new after has_failed status ends
 
     further_promises : (header : Header) (rows : List Accepted) (old new : Outside) (before after : Judging) (has_failed : Bool) (status : ℕ) → EveryTold (AtRest (bodies_of header rows)) old.story
         → RunsFurther k marks header rows old new before after has_failed status → PromisesOn k marks old new before after has_failed status
@@ -588,7 +608,7 @@ module _ (k : KeptTask) (marks : Marks) where
         (read_leaves (copy_name k.name) outcome.Absent old.story new.story calls) (asks_nothing_on quiet)
     further_promises header rows old new before after has_failed status rests (uncopied (unread rose calls said) quiet) =
         faulty_promises old new before after has_failed status (put_status old new _ 9 status said) (inl (read_leaves (copy_name k.name) outcome.Failed old.story new.story calls))
-        (λ nine. read_fails (copy_name k.name) old.story new.story calls) (asks_nothing_on quiet)
+        (λ nine. rose) (λ nine. read_fails (copy_name k.name) old.story new.story calls) (asks_nothing_on quiet)
     further_promises header rows old new before after has_failed status rests (uncopied (wanting calls silent is) quiet) =
         idle_promises old new before after has_failed status (other_by status 11 is other_11) (read_leaves (copy_name k.name) outcome.NoMemory old.story new.story calls) (asks_nothing_on quiet)
     further_promises header rows old new before after has_failed status rests (foreign bytes read has another fit same quiet said) =
@@ -610,17 +630,25 @@ module _ (k : KeptTask) (marks : Marks) where
     -- ---- the two runs
 
     journal_promises : (old new : Outside) (before after : Judging) (has_failed : Bool) (status : ℕ) → RunsJournal k marks old new before after has_failed status → PromisesOn k marks old new before after has_failed status
-    journal_promises old new before after has_failed status (unstarted reason cause same quiet stops) =
-        let it = disk_stops old new has_failed reason status cause stops in
-        cut_promises old new before after has_failed status it.0 it.1 (inl (ap files_told same)) (asks_nothing_on quiet)
-    journal_promises old new before after has_failed status (found len has some same quiet said) =
-        idle_promises old new before after has_failed status (either_other status 13 (put_status old new _ 13 status said) other_13) (ap files_told same) (asks_nothing_on quiet)
-    journal_promises old new before after has_failed status (fresh started empty journalled none runs) =
-        earlier old started new before after has_failed status (journal_leaves _ old.story started.story journalled.journal) (journal_goes_on _ old.story started.story journalled.journal)
-        journalled.output journalled.output_faults (first_promises started new before after has_failed status runs)
+    journal_promises old new before after has_failed status (unstarted reason cause opens quiet stops) =
+        let it = disk_stops old new has_failed reason status old.faults (omega arith) cause stops in
+        cut_promises old new before after has_failed status it.0 it.1 (inl (may_keep_files k.name old.story new.story opens)) (asks_nothing_on quiet)
+    journal_promises old new before after has_failed status (found len has some opens quiet said) =
+        idle_promises old new before after has_failed status (either_other status 13 (put_status old new _ 13 status said) other_13) (may_keep_files k.name old.story new.story (inr opens)) (asks_nothing_on quiet)
+    journal_promises old new before after has_failed status (fresh started empty opens none runs) =
+        earlier old started new before after has_failed status (may_keep_files k.name old.story started.story (inr opens.story)) (may_go_on k.name old.story started.story (inr opens.story))
+        opens.faults opens.output opens.output_faults (first_promises started new before after has_failed status runs)
+
+    -- from the time on at which the journal was opened and recovered
+    behind_opening : (old opened started new : Outside) (before after : Judging) (has_failed : Bool) (status : ℕ) → HasOpened k.name old opened → IsJournalled AnyRecords opened started
+        → PromisesOn k marks started new before after has_failed status → PromisesOn k marks old new before after has_failed status
+    behind_opening old opened started new before after has_failed status opens journalled it =
+        earlier old started new before after has_failed status (journal_leaves _ opened.story started.story journalled.journal ∙ may_keep_files k.name old.story opened.story (inr opens.story))
+        (goes_further old.story opened.story started.story (may_go_on k.name old.story opened.story (inr opens.story)) (journal_goes_on _ opened.story started.story journalled.journal))
+        (omega (arith, opens.faults, journalled.faults)) (journalled.output ∙ opens.output) (journalled.output_faults ∙ opens.output_faults) it
 
     -- a journal that was not recovered
-    unrecovered_promises : (reason : JournalFault) (old new : Outside) (before after : Judging) (has_failed : Bool) (status : ℕ) → (reason ≡ journal_fault.Disk → has_failed ≡ true)
+    unrecovered_promises : (reason : JournalFault) (old new : Outside) (before after : Judging) (has_failed : Bool) (status : ℕ) → (reason ≡ journal_fault.Disk → DiskFailed old.faults new.faults has_failed)
         → files_told new.story ≡ files_told old.story → after ≡ before → Stops old new k.name reason status → PromisesOn k marks old new before after has_failed status
     unrecovered_promises journal_fault.NoMemory old new before after has_failed status cause same quiet stops =
         idle_promises old new before after has_failed status (other_by status 11 stops.1 other_11) same (asks_nothing_on quiet)
@@ -632,14 +660,15 @@ module _ (k : KeptTask) (marks : Marks) where
         idle_promises old new before after has_failed status (either_other status 13 (put_status old new (refused_line k.name n) 13 status stops) other_13) same (asks_nothing_on quiet)
 
     resume_promises : (old new : Outside) (before after : Judging) (has_failed : Bool) (status : ℕ) → RunsResume k marks old new before after has_failed status → PromisesOn k marks old new before after has_failed status
-    resume_promises old new before after has_failed status (unrecovered reason recovers never cause journal quiet stops) =
-        unrecovered_promises reason old new before after has_failed status cause (journal_leaves _ old.story new.story journal) quiet stops
-    resume_promises old new before after has_failed status (anew started recovers journalled none runs) =
-        earlier old started new before after has_failed status (journal_leaves _ old.story started.story journalled.journal) (journal_goes_on _ old.story started.story journalled.journal)
-        journalled.output journalled.output_faults (first_promises started new before after has_failed status runs)
-    resume_promises old new before after has_failed status (further started header rows recovers journalled rests fits runs) =
-        earlier old started new before after has_failed status (journal_leaves _ old.story started.story journalled.journal) (journal_goes_on _ old.story started.story journalled.journal)
-        journalled.output journalled.output_faults (further_promises header rows.items started new before after has_failed status rests runs)
+    resume_promises old new before after has_failed status (on_unstarted reason cause opens quiet stops) =
+        let it = disk_stops old new has_failed reason status old.faults (omega arith) cause stops in
+        cut_promises old new before after has_failed status it.0 it.1 (inl (may_keep_files k.name old.story new.story opens)) (asks_nothing_on quiet)
+    resume_promises old new before after has_failed status (unrecovered opened reason recovers never cause opens journal quiet stops) =
+        unrecovered_promises reason old new before after has_failed status cause (journal_leaves _ opened new.story journal ∙ may_keep_files k.name old.story opened (inr opens)) quiet stops
+    resume_promises old new before after has_failed status (anew opened started recovers opens journalled none runs) =
+        behind_opening old opened started new before after has_failed status opens journalled (first_promises started new before after has_failed status runs)
+    resume_promises old new before after has_failed status (further opened started header rows recovers opens journalled rests fits runs) =
+        behind_opening old opened started new before after has_failed status opens journalled (further_promises header rows.items started new before after has_failed status rests runs)
 
 -- what each kept run promises
 pub kept_promises : (k : KeptTask) (marks : Marks) (old new : Outside) (before after : Judging) (has_failed : Bool) (status : ℕ) → k.saves ≡ true

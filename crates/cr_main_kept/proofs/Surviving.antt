@@ -17,9 +17,9 @@ use Rattle.cr_journal_rows.specs.declared.header.Header.{Header}
 use Rattle.cr_journal_rows.proofs.Codec.{one_row}
 use Rattle.cr_journal_stops.specs.Laws.{Spares}
 use Rattle.cr_journal_stops.specs.Stops.{SafeTold, StaysSafe, StaysSafeTold}
-use Rattle.cr_journal_stops.proofs.Safe.{copy_phase, file_phase, first_may, first_of, journal_phase, no_phase, other_phase, phases, put_other, put_same, read_phase, safe_now}
+use Rattle.cr_journal_stops.proofs.Safe.{copy_phase, file_phase, first_may, first_of, journal_phase, no_phase, open_phase, other_phase, phases, put_other, put_same, read_phase, safe_now}
 use Rattle.cr_log.specs.Texts.{log_text_of, summary_text_of}
-use Rattle.cr_outside.specs.Files.{Shows}
+use Rattle.cr_outside.specs.Files.{Names, Shows}
 use Rattle.cr_outside.specs.Sink.{appended}
 use Rattle.cr_outside.specs.Story.{Story, changes_of, files_now, files_told, with_event}
 use Rattle.cr_outside.specs.Story.Event.{Read, Wrote}
@@ -46,20 +46,21 @@ use Rattle.cr_reduce.proofs.Sizes.{one_size, size_by_length}
 use Rattle.cr_replay.specs.Chains.{Follows, IsStep}
 use Rattle.cr_replay.specs.Chains.Follows.{further}
 use Rattle.cr_main_kept.specs.Header.{header_of}
-use Rattle.cr_main_kept.specs.Kept.{AreOfReduction, AnyRecords, BeginWith, EndsKept, FileBegins, FollowsOn, HasKeptAll, IsFirst, Journals, RunsFirst, RunsFurther, RunsJournal, RunsResume, StartsOn, Stops, asking}
+use Rattle.cr_main_kept.specs.Kept.{AreOfReduction, AnyRecords, BeginWith, EndsKept, FileBegins, FollowsOn, HasKeptAll, IsFirst, IsOpening, Journals, MayBeOpening, RunsFirst, RunsFurther, RunsJournal, RunsResume, StartsOn, Stops, asking}
 use Rattle.cr_main_kept.specs.Kept.EndsKept.{cut_off as ending_cut_off, concluded as ending_concluded}
 use Rattle.cr_main_kept.specs.Kept.StartsOn.{stopped as starts_stopped, unbegun as starts_unbegun, begun as starts_begun}
 use Rattle.cr_main_kept.specs.Kept.RunsFirst.{unopened as first_unopened, opened as first_opened}
-use Rattle.cr_main_kept.specs.Kept.FollowsOn.{stopped as on_stopped, differs as on_differs, closed as on_closed, followed as on_followed}
+use Rattle.cr_main_kept.specs.Kept.FollowsOn.{stopped as on_stopped, differs as on_differs, closed as on_closed, shrunk as on_shrunk, followed as on_followed}
 use Rattle.cr_main_kept.specs.Kept.RunsFurther.{uncopied as further_on_uncopied, foreign as further_on_foreign, ruled_out as further_on_ruled_out, starved as further_on_starved, lawful as further_on_lawful}
 use Rattle.cr_main_kept.specs.Kept.LacksCopy.{not_there as lacks_not_there, unread as lacks_unread, wanting as lacks_wanting}
 use Rattle.cr_main_kept.specs.Kept.RunsJournal.{unstarted as keeping_unstarted, found as keeping_found, fresh as keeping_fresh}
-use Rattle.cr_main_kept.specs.Kept.RunsResume.{unrecovered as resuming_unrecovered, anew as resuming_anew, further as resuming_further}
+use Rattle.cr_main_kept.specs.Kept.RunsResume.{unstarted as resuming_unstarted, unrecovered as resuming_unrecovered, anew as resuming_anew, further as resuming_further}
 use Rattle.cr_main_kept.specs.KeptTask.{KeptTask, at}
-use Rattle.cr_main_kept.specs.Lines.{fault_line, refused_line}
+use Rattle.cr_main_kept.specs.Lines.{fault_line, journal_name, refused_line}
 use Rattle.cr_main_kept.specs.Surviving.{HasResult, IsSafeFor, IsWhole, Survives, records_of}
 use Rattle.cr_main_kept.specs.declared.header.Marks.{Marks}
-use Rattle.cr_main_kept.proofs.Stories.{every_read, every_saved}
+use Rattle.cr_main_kept.proofs.Naming.{apart as names_apart}
+use Rattle.cr_main_kept.proofs.Stories.{every_opened, every_read, every_saved, may_keep_files}
 use Rattle.cr_main_task.specs.Beginning.{HasBegun, StopsEarly}
 use Rattle.cr_main_task.specs.Beginning.StopsEarly.{refused as early_refused, wanting as early_wanting, not_copied as early_not_copied}
 use Rattle.cr_main_task.specs.Messages.{copy_name, log_name}
@@ -100,23 +101,6 @@ ended_whole reduction untouched limit end Fixed done it = it
 ended_whole reduction untouched limit end Limit done it = it
 ended_whole reduction untouched limit end (Fault turn worker) done it = absurd (not_done 8 8 refl (λ e. omega (arith, e)) (λ e. omega (arith, e)) done)
 ended_whole reduction untouched limit end NoMemory done it = absurd (not_done 11 11 refl (λ e. omega (arith, e)) (λ e. omega (arith, e)) done)
-
--- ---- names
-
-orig_is_5 : length (codes ".orig") ≡ 5
-orig_is_5 = refl
-
-log_is_4 : length (codes ".log") ≡ 4
-log_is_4 = refl
-
-copy_apart : (name : List ℕ) → copy_name name ≡ name → ⊥
-copy_apart name is = omega (arith, ap length is, length-append name (codes ".orig"), orig_is_5)
-
-log_apart : (name : List ℕ) → name ≡ log_name name → ⊥
-log_apart name is = omega (arith, ap length is, length-append name (codes ".log"), log_is_4)
-
-copy_log_apart : (name : List ℕ) → copy_name name ≡ log_name name → ⊥
-copy_log_apart name is = omega (arith, ap length is, length-append name (codes ".orig"), length-append name (codes ".log"), orig_is_5, log_is_4)
 
 -- ---- what files have
 
@@ -239,6 +223,13 @@ module _ (k : KeptTask) (marks : Marks) (bytes : List ℕ) (size : ℕ) (out : O
   read_stays other called.NoMemory old new (inl same) safe = nothing old new same safe
   read_stays other called.NoMemory old new (inr is) safe = subst (Stays old) (sym is) (read_phase copy t.name bytes header rest old other most_read called.NoMemory safe)
 
+  opening_stays : (old new : Option Story) → IsOpening t.name old new → Safe old → Stays old new
+  opening_stays old new is safe = subst (Stays old) (sym is) (open_phase copy t.name bytes header rest old (journal_name t.name) safe)
+
+  may_stay : (old new : Option Story) → MayBeOpening t.name old new → Safe old → Stays old new
+  may_stay old new (inl same) safe = nothing old new same safe
+  may_stay old new (inr is) safe = opening_stays old new is safe
+
   write_fails : (saving : Bool) (old new : Outside) (other given : List ℕ) (status : ℕ) → ((end : Called) (is_put : Bool) → Stays old.story (with_event (Wrote other given end is_put) old.story)) → Safe old.story
       → Fails saving old new other given status → Stays old.story new.story
   write_fails saving old new other given status each safe (fails_call_failed saving_is rose (is_put, is) said) = subst (Stays old.story) (sym is) (each called.Failed is_put)
@@ -250,13 +241,13 @@ module _ (k : KeptTask) (marks : Marks) (bytes : List ℕ) (size : ℕ) (out : O
   saved_story other given told new is = subst (λ (b : Bool). new ≡ story_saved b other given told) saves is
 
   write_copy : (told : Option Story) (end : Called) (is_put : Bool) → Safe told → Stays told (with_event (Wrote copy bytes end is_put) told)
-  write_copy told end is_put safe = copy_phase copy t.name bytes header rest told end is_put (λ is. copy_apart t.name (sym is)) safe
+  write_copy told end is_put safe = copy_phase copy t.name bytes header rest told end is_put (λ is. (names_apart t.name).copy (sym is)) safe
 
   write_file : (told : Option Story) (given : List ℕ) (end : Called) (is_put : Bool) → EveryTold StandsFirst told → Safe told → Stays told (with_event (Wrote t.name given end is_put) told)
-  write_file told given end is_put stands safe = file_phase copy t.name bytes header rest told given end is_put (copy_apart t.name) stands safe
+  write_file told given end is_put stands safe = file_phase copy t.name bytes header rest told given end is_put ((names_apart t.name).copy) stands safe
 
   write_log : (told : Option Story) (given : List ℕ) (end : Called) (is_put : Bool) → Safe told → Stays told (with_event (Wrote (log_name t.name) given end is_put) told)
-  write_log told given end is_put safe = other_phase copy t.name bytes header rest told (log_name t.name) given end is_put (copy_log_apart t.name) (log_apart t.name) safe
+  write_log told given end is_put safe = other_phase copy t.name bytes header rest told (log_name t.name) given end is_put (names_apart t.name).copy_log (λ is. (names_apart t.name).log (sym is)) safe
 
   -- a header that stands in every image
   pub rest_first : (h : Body) (more : List Body) (told : Option Story) → EveryTold (AtRest (h ∷ more)) told → EveryTold (Stands (h ∷ [])) told
@@ -307,8 +298,8 @@ module _ (k : KeptTask) (marks : Marks) (bytes : List ℕ) (size : ℕ) (out : O
       let mid_is : story_saved t.saves t.name end.file.items reduced.story ≡ mid = saved_story t.name end.file.items reduced.story (story_saved t.saves t.name end.file.items reduced.story) refl in
       let all : new.story ≡ with_event (Wrote (log_name t.name) text called.Done true) mid =
       saved_story (log_name t.name) text mid new.story (subst (λ (m : Option Story). new.story ≡ story_saved t.saves (log_name t.name) text m) mid_is calls) in
-      let copied = has_still mid copy (log_name t.name) text bytes called.Done (copy_log_apart t.name) (has_still reduced.story copy t.name end.file.items bytes called.Done (copy_apart t.name) (copy_there reduced.story safe stands)) in
-      let filed = has_still mid t.name (log_name t.name) text end.file.items called.Done (log_apart t.name) (has_put reduced.story t.name end.file.items called.Done) in (
+      let copied = has_still mid copy (log_name t.name) text bytes called.Done (names_apart t.name).copy_log (has_still reduced.story copy t.name end.file.items bytes called.Done ((names_apart t.name).copy) (copy_there reduced.story safe stands)) in
+      let filed = has_still mid t.name (log_name t.name) text end.file.items called.Done (λ is. (names_apart t.name).log (sym is)) (has_put reduced.story t.name end.file.items called.Done) in (
         subst (Stays reduced.story) (sym all) (then_stays reduced.story mid (with_event (Wrote (log_name t.name) text called.Done true) mid) one_more (write_log mid text called.Done true still)),
         λ done.
             let it = summed reduced new (summary_text_of t.name size new_size end) (end_status end.why) status said done in
@@ -416,24 +407,31 @@ module _ (k : KeptTask) (marks : Marks) (bytes : List ℕ) (size : ℕ) (out : O
         one_size bytes old_size size begun.sized whole.sized,
       )
 
+  still_copied : (old new : Option Story) → MayBeOpening t.name old new → FileHas (files_told old) copy bytes → FileHas (files_told new) copy bytes
+  still_copied old new opens has = subst (λ (files : Option Names). FileHas files copy bytes) (sym (may_keep_files t.name old new opens)) has
+
   starts_on : (old new : Outside) (before after : Judging) (has_failed : Bool) (status : ℕ) → Safe old.story → StartsOn t marks bytes old new before after has_failed status → Promises old new status
   starts_on old new before after has_failed status safe (starts_stopped stops) = stops_early old new before after status safe stops
-  starts_on old new before after has_failed status safe (starts_unbegun copied old_size why begun journal cause put) =
+  starts_on old new before after has_failed status safe (starts_unbegun copied opened old_size why begun opens journal cause put) =
       let (to_copied, copy_is, size_is) = begun_stays old copied before after old_size safe begun in
-      let are : BeginWith (header_of marks t.limit old_size) (header ∷ rest) = (rest, (λ i. header_body (header_of marks t.limit (sym size_is i)) ∷ rest)) in (
-        then_stays old.story copied.story new.story to_copied (journal_stays copied.story new.story (now_safe old.story copied.story to_copied) (BeginWith (header_of marks t.limit old_size)) journal are (spared copied.story new.story copy_is)),
+      let are : BeginWith (header_of marks t.limit old_size) (header ∷ rest) = (rest, (λ i. header_body (header_of marks t.limit (sym size_is i)) ∷ rest)) in
+      let to_opened = then_stays old.story copied.story opened to_copied (may_stay copied.story opened opens (now_safe old.story copied.story to_copied)) in (
+        then_stays old.story opened new.story to_opened
+            (journal_stays opened new.story (now_safe old.story opened to_opened) (BeginWith (header_of marks t.limit old_size)) journal are (spared opened new.story (still_copied copied.story opened opens copy_is))),
         λ done. absurd (never_stops copied new why status put done),
       )
-  starts_on old new before after has_failed status safe (starts_begun copied started since old_size kept_at begun journalled rests is_first ends) =
+  starts_on old new before after has_failed status safe (starts_begun copied opened started since old_size kept_at begun opens journalled rests is_first ends) =
       let (to_copied, copy_is, size_is) = begun_stays old copied before since old_size safe begun in
       let are : BeginWith (header_of marks t.limit old_size) (header ∷ rest) = (rest, (λ i. header_body (header_of marks t.limit (sym size_is i)) ∷ rest)) in
-      let to_started = then_stays old.story copied.story started.story to_copied
-      (journal_stays copied.story started.story (now_safe old.story copied.story to_copied) (BeginWith (header_of marks t.limit old_size)) journalled.journal are (spared copied.story started.story copy_is)) in
+      let to_opened = then_stays old.story copied.story opened.story to_copied (opening_stays copied.story opened.story opens.story (now_safe old.story copied.story to_copied)) in
+      let to_started = then_stays old.story opened.story started.story to_opened
+      (journal_stays opened.story started.story (now_safe old.story opened.story to_opened) (BeginWith (header_of marks t.limit old_size)) journalled.journal are
+      (spared opened.story started.story (still_copied copied.story opened.story (inr opens.story) copy_is))) in
       let none_yet : Front kept_at.accepted.items out.accepted = (out.accepted, ap (λ (l : List Accepted). l ++ out.accepted) (sym is_first.none)) in
       let header_rests : EveryTold (AtRest (journal_of header kept_at.accepted.items)) started.story =
       subst (λ (rows : List Accepted). EveryTold (AtRest (journal_of header rows)) started.story) (sym is_first.none)
       (subst (λ (n : ℕ). EveryTold (AtRest (bodies_of (header_of marks t.limit n) [])) started.story) size_is rests) in
-      from_earlier old started new status to_started (journalled.output ∙ begun.copied.output)
+      from_earlier old started new status to_started (journalled.output ∙ opens.output ∙ begun.copied.output)
       (ends_so kept_at old_size started new since after has_failed status size_is (goes_from kept_at (first_is_kept kept_at is_first) none_yet) (now_safe old.story started.story to_started) header_rests ends)
 
   runs_first : (old new : Outside) (before after : Judging) (has_failed : Bool) (status : ℕ) → IsStory old.story → Safe old.story → StandsNone old.story
@@ -477,8 +475,12 @@ module _ (k : KeptTask) (marks : Marks) (bytes : List ℕ) (size : ℕ) (out : O
   follows_on h rows old new before after has_failed status told safe rests (on_stopped stops) = stops_asking old new before after status safe stops
   follows_on h rows old new before after has_failed status told safe rests (on_differs asked old_size n begun breaks below same put) =
       (nothing old.story new.story (same ∙ begun.copied.story) safe, λ done. absurd (never_13 asked new n status put done))
-  follows_on h rows old new before after has_failed status told safe rests (on_closed asked old_size why begun same cause put) =
-      (nothing old.story new.story (same ∙ begun.copied.story) safe, λ done. absurd (never_stops asked new why status put done))
+  follows_on h rows old new before after has_failed status told safe rests (on_closed asked old_size why begun opens cause put) =
+      let to_asked = nothing old.story asked.story begun.copied.story safe in
+      (then_stays old.story asked.story new.story to_asked (may_stay asked.story new.story opens (now_safe old.story asked.story to_asked)), λ done. absurd (never_stops asked new why status put done))
+  follows_on h rows old new before after has_failed status told safe rests (on_shrunk asked old_size len n begun opens long gone put) =
+      let to_asked = nothing old.story asked.story begun.copied.story safe in
+      (then_stays old.story asked.story new.story to_asked (opening_stays asked.story new.story opens (now_safe old.story asked.story to_asked)), λ done. absurd (never_13 asked new n status put done))
   follows_on h rows old new before after has_failed status told safe rests (on_followed asked started since old_size kept_at begun replayed below reopened ends) =
       let (more, all_is) = come_first (bodies_of h rows) old.story told safe rests in
       let all : header ∷ rest ≡ header_body h ∷ (map row_body rows ++ more) = all_is in
@@ -489,11 +491,13 @@ module _ (k : KeptTask) (marks : Marks) (bytes : List ℕ) (size : ℕ) (out : O
       let front : Front rows out.accepted =
       rows_front rows out.accepted (rows_fit t.search t.limit levels below bytes kept_at.file.items 0 kept_at.turns rows replayed.follows) (rows_fit t.search t.limit levels below bytes last 0 turns out.accepted all_follow) (more, rest_is) in
       let kept_front : Front kept_at.accepted.items out.accepted = subst (λ (l : List Accepted). Front l out.accepted) (sym replayed.same) front in
-      let started_is : started.story ≡ old.story = reopened.story ∙ begun.copied.story in
-      let stays = nothing old.story started.story started_is safe in
+      let to_asked = nothing old.story asked.story begun.copied.story safe in
+      let stays = then_stays old.story asked.story started.story to_asked (opening_stays asked.story started.story reopened.story (now_safe old.story asked.story to_asked)) in
       let asked_rests : EveryTold (AtRest (journal_of header kept_at.accepted.items)) started.story =
-      subst (λ (told : Option Story). EveryTold (AtRest (journal_of header kept_at.accepted.items)) told) (sym started_is)
-      (subst (λ (l : List Accepted). EveryTold (AtRest (journal_of header l)) old.story) (sym replayed.same) (subst (λ (b : Body). EveryTold (AtRest (journal_of b rows)) old.story) (sym header_is) rests)) in
+      subst (λ (told : Option Story). EveryTold (AtRest (journal_of header kept_at.accepted.items)) told) (sym reopened.story)
+      (every_opened (AtRest (journal_of header kept_at.accepted.items)) asked.story (journal_name t.name)
+      (subst (λ (told : Option Story). EveryTold (AtRest (journal_of header kept_at.accepted.items)) told) (sym begun.copied.story)
+      (subst (λ (l : List Accepted). EveryTold (AtRest (journal_of header l)) old.story) (sym replayed.same) (subst (λ (b : Body). EveryTold (AtRest (journal_of b rows)) old.story) (sym header_is) rests)))) in
       from_earlier old started new status stays (reopened.output ∙ begun.copied.output)
       (ends_so kept_at old_size started new since after has_failed status (one_size bytes old_size size begun.sized whole.sized) (goes_from kept_at replayed.is_kept kept_front) (now_safe old.story started.story stays) asked_rests ends)
 
@@ -526,24 +530,32 @@ module _ (k : KeptTask) (marks : Marks) (bytes : List ℕ) (size : ℕ) (out : O
   pub recovered_stays : (old new : Option Story) → Safe old → Journals AnyRecords old new → Stays old new
   recovered_stays old new safe journal = journal_stays old new safe AnyRecords journal tt (inl (journal.kept [] tt))
 
+  -- it was opened before
+  pub opened_stays : (old opened new : Option Story) → Safe old → IsOpening t.name old opened → Journals AnyRecords opened new → Stays old new
+  opened_stays old opened new safe opens journal =
+      let to_opened = opening_stays old opened opens safe in
+      then_stays old opened new to_opened (recovered_stays opened new (now_safe old opened to_opened) journal)
+
   runs_journal : (old new : Outside) (before after : Judging) (has_failed : Bool) (status : ℕ) → IsStory old.story → Safe old.story → RunsJournal k marks old new before after has_failed status → Promises old new status
-  runs_journal old new before after has_failed status told safe (keeping_unstarted why cause same quiet put) = (nothing old.story new.story same safe, λ done. absurd (never_stops old new why status put done))
-  runs_journal old new before after has_failed status told safe (keeping_found len has some same quiet put) = (nothing old.story new.story same safe, λ done. absurd (never_13 old new 0 status put done))
-  runs_journal old new before after has_failed status told safe (keeping_fresh started empty journalled none runs) =
-      let stays = recovered_stays old.story started.story safe journalled.journal in
-      from_earlier old started new status stays journalled.output
+  runs_journal old new before after has_failed status told safe (keeping_unstarted why cause opens quiet put) = (may_stay old.story new.story opens safe, λ done. absurd (never_stops old new why status put done))
+  runs_journal old new before after has_failed status told safe (keeping_found len has some opens quiet put) = (opening_stays old.story new.story opens safe, λ done. absurd (never_13 old new 0 status put done))
+  runs_journal old new before after has_failed status told safe (keeping_fresh started empty opened none runs) =
+      let stays = opening_stays old.story started.story opened.story safe in
+      from_earlier old started new status stays opened.output
       (runs_first started new before after has_failed status (still_story old.story started.story stays told) (now_safe old.story started.story stays) none runs)
 
   runs_resume : (old new : Outside) (before after : Judging) (has_failed : Bool) (status : ℕ) → IsStory old.story → Safe old.story → RunsResume k marks old new before after has_failed status → Promises old new status
-  runs_resume old new before after has_failed status told safe (resuming_unrecovered why recovers never cause journal quiet put) =
-      (recovered_stays old.story new.story safe journal, λ done. absurd (never_stops old new why status put done))
-  runs_resume old new before after has_failed status told safe (resuming_anew started recovers journalled none runs) =
-      let stays = recovered_stays old.story started.story safe journalled.journal in
-      from_earlier old started new status stays journalled.output
+  runs_resume old new before after has_failed status told safe (resuming_unstarted why cause opens quiet put) =
+      (may_stay old.story new.story opens safe, λ done. absurd (never_stops old new why status put done))
+  runs_resume old new before after has_failed status told safe (resuming_unrecovered opened why recovers never cause opens journal quiet put) =
+      (opened_stays old.story opened new.story safe opens journal, λ done. absurd (never_stops old new why status put done))
+  runs_resume old new before after has_failed status told safe (resuming_anew opened started recovers opens journalled none runs) =
+      let stays = opened_stays old.story opened.story started.story safe opens.story journalled.journal in
+      from_earlier old started new status stays (journalled.output ∙ opens.output)
       (runs_first started new before after has_failed status (still_story old.story started.story stays told) (now_safe old.story started.story stays) none runs)
-  runs_resume old new before after has_failed status told safe (resuming_further started h rows recovers journalled rests fits runs) =
-      let stays = recovered_stays old.story started.story safe journalled.journal in
-      from_earlier old started new status stays journalled.output
+  runs_resume old new before after has_failed status told safe (resuming_further opened started h rows recovers opens journalled rests fits runs) =
+      let stays = opened_stays old.story opened.story started.story safe opens.story journalled.journal in
+      from_earlier old started new status stays (journalled.output ∙ opens.output)
       (runs_further h rows.items started new before after has_failed status (still_story old.story started.story stays told) (now_safe old.story started.story stays) rests runs)
 
   told_ends : (told new : Option Story) (s : Story) → told ≡ Some s → Stays told new → (last : Story) × (new ≡ Some last) × StaysSafe copy t.name bytes (header ∷ rest) s last

@@ -1,5 +1,5 @@
 -- What a run comes to whose reduction is kept in a journal.
-use Rattle.std.specs.Prelude.{◌≡◌, ◌≢◌, ℕ, ◌<◌, ◌^◌, Bool, true, false, List, [], ◌∷◌, Option, Some, None, Ok, Err}
+use Rattle.std.specs.Prelude.{◌≡◌, ◌≢◌, ◌⊎◌, ℕ, ◌+◌, ◌*◌, ◌<◌, ◌≤◌, ◌^◌, Bool, true, false, List, [], ◌∷◌, length, Option, Some, None, Ok, Err}
 use Rattle.std.specs.Global.{Vec}
 use Rattle.cr_cursor.specs.declared.law.Reason.{Reason}
 use Rattle.cr_cursor.specs.Variants.{cursor}
@@ -13,7 +13,8 @@ use Rattle.cr_journal_rows.specs.declared.fault.JournalFault.TheVariants as faul
 use Rattle.cr_journal_rows.specs.declared.header.Header.{Header}
 use Rattle.cr_outside.specs.Faults.{Rose}
 use Rattle.cr_outside.specs.Files.{Names, Shows, content_of}
-use Rattle.cr_outside.specs.Story.{Story, files_told}
+use Rattle.cr_outside.specs.Story.{Story, files_told, with_event}
+use Rattle.cr_outside.specs.Story.Event.{Opened}
 use Rattle.cr_outside.specs.declared.story.Outcome.TheVariants as outcome
 use Rattle.cr_outside_disk.specs.Moments.{AlwaysTold, EveryTold, HasLength, LastsTold}
 use Rattle.cr_reduce.specs.Bench.{Judging}
@@ -28,7 +29,7 @@ use Rattle.cr_reduce.specs.Sizes.{HasSize}
 use Rattle.cr_replay.specs.Chains.{BreaksAt}
 use Rattle.cr_main_kept.specs.Header.{Fits, MarksFit, header_of}
 use Rattle.cr_main_kept.specs.KeptTask.{KeptTask, at}
-use Rattle.cr_main_kept.specs.Lines.{IsDiskFault, PutsFault, fault_line, refused_line}
+use Rattle.cr_main_kept.specs.Lines.{DiskFailed, IsDiskFault, PutsFault, fault_line, journal_name, refused_line}
 use Rattle.cr_main_kept.specs.declared.header.Marks.{Marks}
 use Rattle.cr_main_task.specs.Beginning.{HasBegun, StopsEarly}
 use Rattle.cr_main_task.specs.Messages.{copy_name}
@@ -37,6 +38,14 @@ use Rattle.cr_main_task.specs.Outside.{IsUnchanged, Outside, Puts, Refuses}
 use Rattle.cr_main_task.specs.Run.{Concludes}
 use Rattle.cr_main_task.specs.Task.{IsRead, Task, FileLacks, most_read, stored}
 use Rattle.cr_main_task.specs.declared.messages.Refusal.TheVariants as refusal
+
+-- The journal of the file of this name was opened,
+abbrev pub IsOpening : List ℕ → Option Story → Option Story → Type 0
+IsOpening name old new = new ≡ with_event (Opened (journal_name name)) old
+
+-- or, where that was refused, nothing was done.
+abbrev pub MayBeOpening : List ℕ → Option Story → Option Story → Type 0
+MayBeOpening name old new = (new ≡ old) ⊎ IsOpening name old new
 
 -- What a call on the journal makes of the story: changes of the journal alone. What stands in it keeps standing; and at every
 -- moment each image is kept for records of which this holds, if each was before.
@@ -47,6 +56,7 @@ pub record Journals (Are : List Body → Type 0) (old new : Option Story) : Type
 -- Nothing was called but the disk.
 pub record IsJournalled (Are : List Body → Type 0) (old new : Outside) : Type 0 where
   pub journal : Journals Are old.story new.story
+  pub faults : old.faults ≤ new.faults
   pub output : new.output ≡ old.output
   pub output_faults : new.output_faults ≡ old.output_faults
 
@@ -73,6 +83,13 @@ abbrev pub HasKeptAll : Kept → End → Option Story → Option Story → Type 
 HasKeptAll kept e old new = e.why ≢ why.NoMemory → (header : Body) → EveryTold (AtRest (journal_of header kept.accepted.items)) old
     → EveryTold (AtRest (journal_of header e.accepted.items)) new
 
+-- The journal was opened, and nothing else was called.
+pub record HasOpened (name : List ℕ) (old new : Outside) : Type 0 where
+  pub story : IsOpening name old.story new.story
+  pub faults : old.faults ≤ new.faults
+  pub output : new.output ≡ old.output
+  pub output_faults : new.output_faults ≡ old.output_faults
+
 -- the line for a fault of the journal was put
 abbrev pub Stops : Outside → Outside → List ℕ → JournalFault → ℕ → Type 0
 Stops old new name why status = PutsFault old.output new.output old.output_faults new.output_faults name why status
@@ -81,7 +98,7 @@ Stops old new name why status = PutsFault old.output new.output old.output_fault
 pub data EndsKept (t : Task) (kept : Kept) (old_size : ℕ) (old new : Outside) (before after : Judging) (has_failed : Bool) (status : ℕ) : Type 0 where
   -- 12: the disk failed, and neither the file nor the log was written
   cut_off : (e : End) → e.why ≡ why.NoMemory → IsReductionOn t.search before after t.window t.limit kept e
-      → Journals (AreOfReduction t.search t.limit kept old.story) old.story new.story → has_failed ≡ true
+      → Journals (AreOfReduction t.search t.limit kept old.story) old.story new.story → DiskFailed old.faults new.faults has_failed
       → Puts old new (fault_line t.name) 12 12 status → EndsKept t kept old_size old new before after has_failed status
   -- 0, 7, 8, 9, 10, 11: as a reduction without a journal
   concluded : (e : End) (reduced : Outside) (size : ℕ) → IsReductionOn t.search before after t.window t.limit kept e
@@ -100,12 +117,12 @@ pub data StartsOn (t : Task) (marks : Marks) (bytes : List ℕ) (old new : Outsi
   -- 6, 8, 9, 11: the test doesn't say yes, or the copy was not saved
   stopped : StopsEarly t bytes old new before after status → StartsOn t marks bytes old new before after has_failed status
   -- 11, 12: the journal was not begun
-  unbegun : (copied : Outside) (size : ℕ) (why : JournalFault) → HasBegun t bytes old copied before after size
-      → Journals (BeginWith (header_of marks t.limit size)) copied.story new.story → IsDiskFault why has_failed → Stops copied new t.name why status
+  unbegun : (copied : Outside) (opened : Option Story) (size : ℕ) (why : JournalFault) → HasBegun t bytes old copied before after size → MayBeOpening t.name copied.story opened
+      → Journals (BeginWith (header_of marks t.limit size)) opened new.story → IsDiskFault why copied.faults new.faults has_failed → Stops copied new t.name why status
       → StartsOn t marks bytes old new before after has_failed status
   -- the journal was begun, once the copy was saved, and the reduction goes on with it
-  begun : (copied started : Outside) (since : Judging) (size : ℕ) (kept : Kept) → HasBegun t bytes old copied before since size
-      → IsJournalled (BeginWith (header_of marks t.limit size)) copied started → EveryTold (AtRest (bodies_of (header_of marks t.limit size) [])) started.story
+  begun : (copied opened started : Outside) (since : Judging) (size : ℕ) (kept : Kept) → HasBegun t bytes old copied before since size → HasOpened t.name copied opened
+      → IsJournalled (BeginWith (header_of marks t.limit size)) opened started → EveryTold (AtRest (bodies_of (header_of marks t.limit size) [])) started.story
       → IsFirst bytes kept → EndsKept t kept size started new since after has_failed status → StartsOn t marks bytes old new before after has_failed status
 
 -- A run that begins a journal.
@@ -131,7 +148,7 @@ pub record HasCopy (name : List ℕ) (old new : Outside) (bytes : List ℕ) : Ty
 pub data LacksCopy (name : List ℕ) (old new : Outside) (status : ℕ) : Type 0 where
   not_there : FileLacks (files_told old.story) (copy_name name) → IsRead (copy_name name) outcome.Absent old.story new.story → Refuses old new (copy_name name) refusal.NoFile status
       → LacksCopy name old new status
-  unread : Rose old.file_faults new.file_faults → IsRead (copy_name name) outcome.Failed old.story new.story → Refuses old new (copy_name name) refusal.FileFault status
+  unread : Rose old.faults new.faults → IsRead (copy_name name) outcome.Failed old.story new.story → Refuses old new (copy_name name) refusal.FileFault status
       → LacksCopy name old new status
   wanting : IsRead (copy_name name) outcome.NoMemory old.story new.story → new.output ≡ old.output → status ≡ 11 → LacksCopy name old new status
 
@@ -139,11 +156,11 @@ pub data LacksCopy (name : List ℕ) (old new : Outside) (status : ℕ) : Type 0
 abbrev pub asking : Task → Task
 asking t = record t { saves = false }
 
--- The journal was opened once more: nothing changes.
-pub record IsReopened (old new : Outside) : Type 0 where
-  pub story : new.story ≡ old.story
-  pub output : new.output ≡ old.output
-  pub output_faults : new.output_faults ≡ old.output_faults
+-- A journal of so many rows has become so short that record n, from 0 for the header, is the first that is gone: it and the next gate don't fit.
+pub record IsShrunk (rows len n : ℕ) : Type 0 where
+  pub within : n ≤ rows
+  pub gone : len < 32 * n + 33
+  pub before : (j : ℕ) → j < n → 32 * j + 33 ≤ len
 
 -- A run on the lawful bytes of the copy, that goes on behind these rows.
 pub data FollowsOn (t : Task) (bytes : List ℕ) (rows : List Accepted) (old new : Outside) (before after : Judging) (has_failed : Bool) (status : ℕ) : Type 0 where
@@ -153,11 +170,14 @@ pub data FollowsOn (t : Task) (bytes : List ℕ) (rows : List Accepted) (old new
   differs : (asked : Outside) (size i : ℕ) → HasBegun (asking t) bytes old asked before after size → BreaksAt (chain_in t.search t.limit) bytes 0 rows i → most_turns t.limit < 2 ^ 64 → new.story ≡ asked.story
       → Puts asked new (refused_line t.name i) 13 13 status → FollowsOn t bytes rows old new before after has_failed status
   -- 11, 12: no memory was left for the rows, or the journal was not opened again
-  closed : (asked : Outside) (size : ℕ) (why : JournalFault) → HasBegun (asking t) bytes old asked before after size → new.story ≡ asked.story → IsDiskFault why has_failed
-      → Stops asked new t.name why status → FollowsOn t bytes rows old new before after has_failed status
+  closed : (asked : Outside) (size : ℕ) (why : JournalFault) → HasBegun (asking t) bytes old asked before after size → MayBeOpening t.name asked.story new.story
+      → IsDiskFault why asked.faults new.faults has_failed → Stops asked new t.name why status → FollowsOn t bytes rows old new before after has_failed status
+  -- 13: by then the journal has become shorter, and this record of it is gone
+  shrunk : (asked : Outside) (size len n : ℕ) → HasBegun (asking t) bytes old asked before after size → IsOpening t.name asked.story new.story → HasLength new.story len → IsShrunk (length rows) len n
+      → Puts asked new (refused_line t.name n) 13 13 status → FollowsOn t bytes rows old new before after has_failed status
   -- the rows were followed, and the reduction goes on behind them
   followed : (asked started : Outside) (since : Judging) (size : ℕ) (kept : Kept) → HasBegun (asking t) bytes old asked before since size → IsReplayed (chain_in t.search t.limit) bytes rows kept
-      → most_turns t.limit < 2 ^ 64 → IsReopened asked started → EndsKept t kept size started new since after has_failed status → FollowsOn t bytes rows old new before after has_failed status
+      → most_turns t.limit < 2 ^ 64 → HasOpened t.name asked started → EndsKept t kept size started new since after has_failed status → FollowsOn t bytes rows old new before after has_failed status
 
 -- A run that goes on with the journal of this header and of these rows.
 pub data RunsFurther (k : KeptTask) (marks : Marks) (header : Header) (rows : List Accepted) (old new : Outside) (before after : Judging) (has_failed : Bool) (status : ℕ) : Type 0 where
@@ -178,22 +198,26 @@ pub data RunsFurther (k : KeptTask) (marks : Marks) (header : Header) (rows : Li
 -- A run that keeps a journal.
 pub data RunsJournal (k : KeptTask) (marks : Marks) (old new : Outside) (before after : Judging) (has_failed : Bool) (status : ℕ) : Type 0 where
   -- 11, 12: the journal was not opened
-  unstarted : (why : JournalFault) → IsDiskFault why has_failed → new.story ≡ old.story → after ≡ before → Stops old new k.name why status
+  unstarted : (why : JournalFault) → IsDiskFault why old.faults new.faults has_failed → MayBeOpening k.name old.story new.story → after ≡ before → Stops old new k.name why status
       → RunsJournal k marks old new before after has_failed status
   -- 13: there is one already
-  found : (len : ℕ) → HasLength old.story len → len ≢ 0 → new.story ≡ old.story → after ≡ before → Puts old new (refused_line k.name 0) 13 13 status
+  found : (len : ℕ) → HasLength old.story len → len ≢ 0 → IsOpening k.name old.story new.story → after ≡ before → Puts old new (refused_line k.name 0) 13 13 status
       → RunsJournal k marks old new before after has_failed status
-  fresh : (started : Outside) → HasLength old.story 0 → IsJournalled AnyRecords old started → StandsNone started.story → RunsFirst k marks started new before after has_failed status
+  fresh : (started : Outside) → HasLength old.story 0 → HasOpened k.name old started → StandsNone started.story → RunsFirst k marks started new before after has_failed status
       → RunsJournal k marks old new before after has_failed status
 
 -- A run that goes on.
 pub data RunsResume (k : KeptTask) (marks : Marks) (old new : Outside) (before after : Judging) (has_failed : Bool) (status : ℕ) : Type 0 where
-  -- 11, 12, 13: the journal was not recovered, or a record of it isn't in the form
-  unrecovered : (why : JournalFault) → RecoversTold old.story (Err why) → ((i : ℕ) → why ≢ fault.Differs i) → (why ≡ fault.Disk → has_failed ≡ true) → Journals AnyRecords old.story new.story → after ≡ before
+  -- 11, 12: the journal was not opened
+  unstarted : (why : JournalFault) → IsDiskFault why old.faults new.faults has_failed → MayBeOpening k.name old.story new.story → after ≡ before → Stops old new k.name why status
+      → RunsResume k marks old new before after has_failed status
+  -- 11, 12, 13: it was not recovered, or a record of it isn't in the form
+  unrecovered : (opened : Option Story) (why : JournalFault) → RecoversTold old.story (Err why) → ((i : ℕ) → why ≢ fault.Differs i) → (why ≡ fault.Disk → DiskFailed old.faults new.faults has_failed)
+      → IsOpening k.name old.story opened → Journals AnyRecords opened new.story → after ≡ before
       → Stops old new k.name why status → RunsResume k marks old new before after has_failed status
   -- no header stands, so it begins
-  anew : (started : Outside) → RecoversTold old.story (Ok None) → IsJournalled AnyRecords old started → StandsNone started.story → RunsFirst k marks started new before after has_failed status
+  anew : (opened started : Outside) → RecoversTold old.story (Ok None) → HasOpened k.name old opened → IsJournalled AnyRecords opened started → StandsNone started.story → RunsFirst k marks started new before after has_failed status
       → RunsResume k marks old new before after has_failed status
-  further : (started : Outside) (header : Header) (rows : Vec Accepted) → RecoversTold old.story (Ok (Some (header, rows))) → IsJournalled AnyRecords old started
+  further : (opened started : Outside) (header : Header) (rows : Vec Accepted) → RecoversTold old.story (Ok (Some (header, rows))) → HasOpened k.name old opened → IsJournalled AnyRecords opened started
       → EveryTold (AtRest (bodies_of header rows.items)) started.story → AllFit header rows.items
       → RunsFurther k marks header rows.items started new before after has_failed status → RunsResume k marks old new before after has_failed status

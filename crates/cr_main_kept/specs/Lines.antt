@@ -1,8 +1,13 @@
 -- What a run puts on the output about its journal.
 use Rattle.std.specs.Prelude.{◌≡◌, ℕ, List, [], ◌∷◌, ◌++◌, codes, decimal, Option, Bool, true}
+use Rattle.cr_outside.specs.Faults.{Rose}
 use Rattle.cr_journal_rows.specs.declared.fault.JournalFault.{JournalFault}
 use Rattle.cr_journal_rows.specs.declared.fault.JournalFault.TheVariants as fault
 use Rattle.cr_main_task.specs.Outside.{Says}
+
+-- the journal of a file stands beside it
+abbrev pub journal_name : List ℕ → List ℕ
+journal_name name = name ++ codes ".journal"
 
 abbrev pub fault_line : List ℕ → List ℕ
 fault_line name = codes "creduce: journal fault: " ++ name ++ codes ".journal" ++ 10 ∷ []
@@ -17,9 +22,13 @@ PutsFault old new faults now name fault.Disk status = Says old new faults now (f
 PutsFault old new faults now name (fault.Bad n) status = Says old new faults now (refused_line name n) 13 13 status
 PutsFault old new faults now name (fault.Differs n) status = Says old new faults now (refused_line name n) 13 13 status
 
--- A fault of the disk or want of memory: where the disk failed, the call on it made last did.
-abbrev pub IsDiskFault : JournalFault → Bool → Type 0
-IsDiskFault fault.NoMemory has_failed = Unit {0}
-IsDiskFault fault.Disk has_failed = has_failed ≡ true
-IsDiskFault (fault.Bad n) has_failed = ⊥
-IsDiskFault (fault.Differs n) has_failed = ⊥
+-- A call on the disk failed, the one on it made last; so the count of faults rose.
+abbrev pub DiskFailed : ℕ → ℕ → Bool → Type 0
+DiskFailed before now has_failed = Rose before now × (has_failed ≡ true)
+
+-- A fault of the disk or want of memory.
+abbrev pub IsDiskFault : JournalFault → ℕ → ℕ → Bool → Type 0
+IsDiskFault fault.NoMemory before now has_failed = Unit {0}
+IsDiskFault fault.Disk before now has_failed = DiskFailed before now has_failed
+IsDiskFault (fault.Bad n) before now has_failed = ⊥
+IsDiskFault (fault.Differs n) before now has_failed = ⊥

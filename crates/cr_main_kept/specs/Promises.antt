@@ -6,6 +6,7 @@ use Rattle.cr_journal.specs.Replay.{IsReplayed}
 use Rattle.cr_journal_records.specs.Records.{AtRest}
 use Rattle.cr_journal_rows.specs.Forms.{bodies_of}
 use Rattle.cr_log.specs.Texts.{log_text_of, summary_text_of}
+use Rattle.cr_outside.specs.Faults.{Rose}
 use Rattle.cr_outside.specs.Files.{Names, put_told}
 use Rattle.cr_outside.specs.Story.{EndsWithFault, files_told}
 use Rattle.cr_outside_disk.specs.Moments.{EveryTold}
@@ -18,6 +19,7 @@ use Rattle.cr_reduce.specs.declared.end.Why.TheVariants as why
 use Rattle.cr_main_kept.specs.Header.{header_of}
 use Rattle.cr_main_kept.specs.Kept.{FileBegins, IsFirst}
 use Rattle.cr_main_kept.specs.KeptTask.{KeptTask, at}
+use Rattle.cr_main_kept.specs.Lines.{DiskFailed}
 use Rattle.cr_main_kept.specs.declared.header.Marks.{Marks}
 use Rattle.cr_main_task.specs.Messages.{copy_name, log_name}
 use Rattle.cr_main_task.specs.Outside.{Outside, Puts, saved}
@@ -93,13 +95,14 @@ pub data AsksOnlyOn (k : KeptTask) (files : Option Names) (before after : Judgin
 -- All that a kept run promises, beside that it survives its stops.
 pub record PromisesOn (k : KeptTask) (marks : Marks) (old new : Outside) (before after : Judging) (has_failed : Bool) (status : ℕ) : Type 0 where
   pub ends : ((status ≡ 0) ⊎ (status ≡ 7)) ⊎ ((status ≡ 8) ⊎ (status ≡ 10)) → EndsOn k marks old new after status
-  -- 12: the call on the disk made last failed, and neither the file nor the log was written
-  pub failed : status ≡ 12 → (has_failed ≡ true) × CopiesAtMost k.name (files_told old.story) (files_told new.story)
+  -- 12: a call on the disk failed, the one on it made last, and neither the file nor the log was written
+  pub failed : status ≡ 12 → DiskFailed old.faults new.faults has_failed × CopiesAtMost k.name (files_told old.story) (files_told new.story)
   -- 13: no file was written
   pub refused : status ≡ 13 → files_told new.story ≡ files_told old.story
   pub files_kept : KeepsFilesOn k (files_told old.story) (files_told new.story) after
   -- 8: a judge failed, so the question uses one
   pub failing : status ≡ 8 → k.asks ≡ true
-  -- at 9 no call on the files follows the one that failed
+  -- 9: a call on the files failed, and none follows it
+  pub rose : status ≡ 9 → Rose old.faults new.faults
   pub fault_last : status ≡ 9 → EndsWithFault old.story new.story
   pub asks_only : AsksOnlyOn k (files_told old.story) before after

@@ -9,13 +9,13 @@ ghost use Rattle.cr_main_task.specs.Outside.{outside};
 ghost use Rattle.cr_main_task.specs.Task.{IsOfPrograms, task_for};
 ghost use Rattle.cr_reduce.specs.Bench.{judging, keys_of, says_of};
 
-use crate::header::{MOST_TURNS, Marks, fits, most_turns};
+use crate::header::{Marks, fits, most_turns};
 use crate::journal;
 use crate::lines::{put_refused, put_stop};
 use crate::reduction::reduce_on;
 use cr_cursor::{Law, Passes};
 use cr_journal::replay;
-use cr_journal_rows::Header;
+use cr_journal_rows::{Header, from_disk};
 use cr_main_task::{Asked, Asking, MOST_READ, Refusal, Task, begin, beside, refuse, ruled, status};
 use cr_outside::{Files, Judge, Question, ReadAnswer, Sink};
 use cr_outside_disk::Disk;
@@ -53,8 +53,9 @@ where
     requires window { (0 < task.now.window) × (task.now.window ≤ 4096) }
     requires forgot { bench.old.kept ≡ [] }
     requires rests { Rests rows.items (W.story world.old) }
+    requires limit { most_turns task.now.limit < 2 ^ 63 }
     ensures runs { RunsFurther (kept_task P.Passes L.Law A.Asking task.now (says_of J.Judge bench.old)) marks header rows.items
-        (outside W.Outside W.Files.own world.old O.Sink out.old) (outside W.Outside W.Files.own world.new O.Sink out.new)
+        (outside W.Outside world.old O.Sink out.old) (outside W.Outside world.new O.Sink out.new)
         (judging J.Judge bench.old) (judging J.Judge bench.new) (W.Disk.has_failed world.new) result }
     // Workers that the task doesn't ask for do nothing.
     ensures others { drop task.now.workers bench.new.judges ≡ drop task.now.workers bench.old.judges }
@@ -89,9 +90,9 @@ fn read_copy<W: Files, O: Sink>(
     out: &mut O,
 ) -> Result<Vec<u8>, u8>
     ensures has { IfOk result (λ bytes. HasCopy name.now
-        (outside W.Outside W.Files.own world.old O.Sink out.old) (outside W.Outside W.Files.own world.new O.Sink out.new) bytes.items) }
+        (outside W.Outside world.old O.Sink out.old) (outside W.Outside world.new O.Sink out.new) bytes.items) }
     ensures lacks { IfErr result (λ status. LacksCopy name.now
-        (outside W.Outside W.Files.own world.old O.Sink out.old) (outside W.Outside W.Files.own world.new O.Sink out.new) status) }
+        (outside W.Outside world.old O.Sink out.old) (outside W.Outside world.new O.Sink out.new) status) }
 {
     let copy = match beside(alloc, name, ".orig") {
         Ok(copy) => copy,
@@ -135,8 +136,9 @@ where
     requires forgot { bench.old.kept ≡ [] }
     requires lawful { L.lawful task.now.law.now bytes.items }
     requires rests { Rests rows.items (W.story world.old) }
+    requires limit { most_turns task.now.limit < 2 ^ 63 }
     ensures follows { FollowsOn (task_for P.Passes L.Law Q.Question task.now question.now (says_of J.Judge bench.old)) bytes.items rows.items
-        (outside W.Outside W.Files.own world.old O.Sink out.old) (outside W.Outside W.Files.own world.new O.Sink out.new)
+        (outside W.Outside world.old O.Sink out.old) (outside W.Outside world.new O.Sink out.new)
         (judging J.Judge bench.old) (judging J.Judge bench.new) (W.Disk.has_failed world.new) result }
     // Workers that the task doesn't ask for do nothing.
     ensures others { drop task.now.workers bench.new.judges ≡ drop task.now.workers bench.old.judges }
@@ -164,13 +166,12 @@ where
         Ok(kept) => kept,
         Err(fault) => return put_stop(alloc, out, task.name, fault),
     };
-    // Turns that no reduction comes to, as only a limit above them lets through.
-    if kept.turns > MOST_TURNS {
-        return status::NO_MEMORY;
-    }
-    let count = kept.accepted.len() as u64;
-    if let Err(fault) = journal::reopen(alloc, task.name, count, world) {
-        return put_stop(alloc, out, task.name, fault);
+    let len = match journal::start(alloc, task.name, world) {
+        Ok(len) => len,
+        Err(fault) => return put_stop(alloc, out, task.name, from_disk(fault)),
+    };
+    if let Some(number) = journal::first_gone(len, kept.accepted.len() as u64) {
+        return put_refused(alloc, out, task.name, number);
     }
     reduce_on(rt, alloc, task, question, kept, size, world, bench, out)
 }

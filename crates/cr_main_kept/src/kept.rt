@@ -1,5 +1,6 @@
 // The runs that keep a journal.
-ghost use Rattle.std.specs.Prelude.{◌≡◌, ◌<◌, ◌≤◌, ℕ, List, length, false, true, drop};
+ghost use Rattle.std.specs.Prelude.{◌≡◌, ◌<◌, ◌≤◌, ◌^◌, ℕ, List, length, false, true, drop};
+ghost use Rattle.cr_journal.specs.Laws.{most_turns};
 ghost use Rattle.cr_main_kept.specs.Kept.{RunsJournal, RunsResume};
 ghost use Rattle.cr_main_kept.specs.KeptTask.{kept_task};
 ghost use Rattle.cr_main_kept.specs.Surviving.{Survives};
@@ -51,10 +52,10 @@ where
     requires workers { (0 < task.now.workers) × (task.now.workers ≤ length bench.old.judges) }
     requires window { (0 < task.now.window) × (task.now.window ≤ 4096) }
     ensures runs { RunsJournal (kept_task P.Passes L.Law A.Asking task.now (says_of J.Judge bench.old)) marks
-        (outside W.Outside W.Files.own world.old O.Sink out.old) (outside W.Outside W.Files.own world.new O.Sink out.new)
+        (outside W.Outside world.old O.Sink out.old) (outside W.Outside world.new O.Sink out.new)
         (judging J.Judge bench.old) (judging J.Judge bench.new) (W.Disk.has_failed world.new) result }
     ensures survives { Survives (kept_task P.Passes L.Law A.Asking task.now (says_of J.Judge bench.old)) marks
-        (outside W.Outside W.Files.own world.old O.Sink out.old) (outside W.Outside W.Files.own world.new O.Sink out.new) result }
+        (outside W.Outside world.old O.Sink out.old) (outside W.Outside world.new O.Sink out.new) result }
     // Workers that the task doesn't ask for do nothing.
     ensures others { drop task.now.workers bench.new.judges ≡ drop task.now.workers bench.old.judges }
     ensures silent { A.asks task.now.asking.now ≡ false → bench.new.judges ≡ bench.old.judges }
@@ -71,7 +72,7 @@ where
 
 /// Goes on with the journal beside the file, from the copy, behind the last acceptance that stands in it; where none was begun
 /// it begins one. The status is 12 where a call on the journal failed, 13 where a record isn't in the form, the header isn't that
-/// of this run, or a row doesn't follow; else as of a run without a journal.
+/// of this run, a row doesn't follow, or a record is gone by then; else as of a run without a journal.
 pub fn run_resume<
     R: Threads + Sync,
     P: Passes + Sync,
@@ -97,11 +98,12 @@ where
     requires saves { task.now.saves ≡ true }
     requires workers { (0 < task.now.workers) × (task.now.workers ≤ length bench.old.judges) }
     requires window { (0 < task.now.window) × (task.now.window ≤ 4096) }
+    requires limit { most_turns task.now.limit < 2 ^ 63 }
     ensures runs { RunsResume (kept_task P.Passes L.Law A.Asking task.now (says_of J.Judge bench.old)) marks
-        (outside W.Outside W.Files.own world.old O.Sink out.old) (outside W.Outside W.Files.own world.new O.Sink out.new)
+        (outside W.Outside world.old O.Sink out.old) (outside W.Outside world.new O.Sink out.new)
         (judging J.Judge bench.old) (judging J.Judge bench.new) (W.Disk.has_failed world.new) result }
     ensures survives { Survives (kept_task P.Passes L.Law A.Asking task.now (says_of J.Judge bench.old)) marks
-        (outside W.Outside W.Files.own world.old O.Sink out.old) (outside W.Outside W.Files.own world.new O.Sink out.new) result }
+        (outside W.Outside world.old O.Sink out.old) (outside W.Outside world.new O.Sink out.new) result }
     // Workers that the task doesn't ask for do nothing.
     ensures others { drop task.now.workers bench.new.judges ≡ drop task.now.workers bench.old.judges }
     ensures silent { A.asks task.now.asking.now ≡ false → bench.new.judges ≡ bench.old.judges }

@@ -56,7 +56,7 @@ where
     requires long { 32 * length kept.accepted.items + 33 ≤ W.Disk.size world.old }
     requires rests { Rests kept.accepted.items (W.story world.old) }
     ensures ends { EndsKept (task_for P.Passes L.Law Q.Question task.now question.now (says_of J.Judge bench.old)) kept old_size
-        (outside W.Outside W.Files.own world.old O.Sink out.old) (outside W.Outside W.Files.own world.new O.Sink out.new)
+        (outside W.Outside world.old O.Sink out.old) (outside W.Outside world.new O.Sink out.new)
         (judging J.Judge bench.old) (judging J.Judge bench.new) (W.Disk.has_failed world.new) result }
     // Workers that the task doesn't ask for do nothing.
     ensures others { drop task.now.workers bench.new.judges ≡ drop task.now.workers bench.old.judges }

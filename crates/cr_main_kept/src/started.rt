@@ -49,7 +49,7 @@ where
     requires forgot { bench.old.kept ≡ [] }
     requires none { StandsNone (W.story world.old) }
     ensures runs { RunsFirst (kept_task P.Passes L.Law A.Asking task.now (says_of J.Judge bench.old)) marks
-        (outside W.Outside W.Files.own world.old O.Sink out.old) (outside W.Outside W.Files.own world.new O.Sink out.new)
+        (outside W.Outside world.old O.Sink out.old) (outside W.Outside world.new O.Sink out.new)
         (judging J.Judge bench.old) (judging J.Judge bench.new) (W.Disk.has_failed world.new) result }
     // Workers that the task doesn't ask for do nothing.
     ensures others { drop task.now.workers bench.new.judges ≡ drop task.now.workers bench.old.judges }
@@ -97,7 +97,7 @@ where
     requires lawful { L.lawful task.now.law.now bytes.items }
     requires none { StandsNone (W.story world.old) }
     ensures starts { StartsOn (task_for P.Passes L.Law Q.Question task.now question.now (says_of J.Judge bench.old)) marks bytes.items
-        (outside W.Outside W.Files.own world.old O.Sink out.old) (outside W.Outside W.Files.own world.new O.Sink out.new)
+        (outside W.Outside world.old O.Sink out.old) (outside W.Outside world.new O.Sink out.new)
         (judging J.Judge bench.old) (judging J.Judge bench.new) (W.Disk.has_failed world.new) result }
     // Workers that the task doesn't ask for do nothing.
     ensures others { drop task.now.workers bench.new.judges ≡ drop task.now.workers bench.old.judges }

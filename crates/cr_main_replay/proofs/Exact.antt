@@ -86,16 +86,16 @@ module _ (r : Replaying) (one_offer : (file : List ℕ) (o other : Offer) → r.
   answers_yes t old new status same (leads log lawful spells led said) = said_is old.output new.output old.output_faults new.output_faults _ 0 10 status said
   answers_yes t old new status same (wants silent is) = inr (inr is)
 
-  stops_yes : (one : Reading) (old read new : Outside) (status : ℕ) → read.files ≡ Some files → old.file_faults ≤ read.file_faults → IsThere files one → StopsAt one read new status
-      → (status ≡ 11) ⊎ Rose old.file_faults new.file_faults
+  stops_yes : (one : Reading) (old read new : Outside) (status : ℕ) → read.files ≡ Some files → old.faults ≤ read.faults → IsThere files one → StopsAt one read new status
+      → (status ≡ 11) ⊎ Rose old.faults new.faults
   stops_yes one old read new status same later there (not_there lacks kept calls said) = absurd (there (subst (λ told. FileLacks told one.name) same lacks))
-  stops_yes one old read new status same later there (unreadable rose kept calls said) = inr (rose_earlier old.file_faults read.file_faults new.file_faults later rose)
+  stops_yes one old read new status same later there (unreadable rose kept calls said) = inr (rose_earlier old.faults read.faults new.faults later rose)
   stops_yes one old read new status same later there (no_memory kept calls silent is) = inl is
 
   pub replay_yes : (old new : Outside) (status : ℕ) → old.files ≡ Some files → RunsReplay r old new status
-      → (status ≡ 0) ⊎ ((status ≡ 10) ⊎ ((status ≡ 11) ⊎ Rose old.file_faults new.file_faults))
+      → (status ≡ 0) ⊎ ((status ≡ 10) ⊎ ((status ≡ 11) ⊎ Rose old.faults new.faults))
   replay_yes old new status told (unread u kept) = inr (inr
-      (stops_yes u.one old u.read new status (u.has_read.same.files ∙ told) u.has_read.same.file_faults
+      (stops_yes u.one old u.read new status (u.has_read.same.files ∙ told) u.has_read.same.faults
       (one_there files u.before u.one u.after (subst (AllThere files) u.is (all_there r files it.t it.has))) u.stops))
   replay_yes old new status told (answers t read has_read has calls kept ended) =
       elim (answers_yes t read new status (same_texts r files t it.t (subst (λ m. HasTexts r m t) told has) it.has) ended) [

@@ -5,3 +5,4 @@ pub mod Statuses
 pub mod Promises
 pub mod Exact
 pub mod LawOfPrograms
+pub mod Touching

@@ -69,7 +69,7 @@ reason_not_nine reason nine = elim (reason_is reason) [
   | inr five ↦ absurd (omega (arith, five, nine))
 ]
 
-answer_not_nine : (r : Replaying) (old new : Outside) (status : ℕ) {t : Texts} → Answers r t old.output new.output old.output_faults new.output_faults status → status ≡ 9 → ⊥
+pub answer_not_nine : (r : Replaying) (old new : Outside) (status : ℕ) {t : Texts} → Answers r t old.output new.output old.output_faults new.output_faults status → status ≡ 9 → ⊥
 answer_not_nine r old new status (ruled_out reason unlawful against said) =
     not_nine (reason_status reason) (reason_status reason) status (reason_not_nine reason) (reason_not_nine reason) (said_is _ _ _ _ _ _ _ status said)
 answer_not_nine r old new status (breaks n lawful fails said) = not_nine 14 14 status (λ e. omega (arith, e)) (λ e. omega (arith, e)) (said_is _ _ _ _ _ 14 14 status said)

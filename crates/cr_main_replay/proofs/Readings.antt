@@ -11,7 +11,7 @@ use Rattle.cr_main_replay.specs.Replay.{FileBegins, HasRead, Reading, StopsAt, U
 use Rattle.cr_main_replay.specs.Replay.StopsAt.{no_memory, not_there, unreadable}
 
 pub same_reads : (old : Outside) → HasRead [] old old
-same_reads old = record { story = refl; same = record { files = refl; output = refl; file_faults = omega arith; output_faults = refl } }
+same_reads old = record { story = refl; same = record { files = refl; output = refl; faults = omega arith; output_faults = refl } }
 
 pub reads_on : (one : Reading) (more : List Reading) (old mid new : Outside) → HasRead (one ∷ []) old mid → HasRead more mid new → HasRead (one ∷ more) old new
 reads_on one more old mid new first then = record {
@@ -19,7 +19,7 @@ reads_on one more old mid new first then = record {
   same = record {
     files = then.same.files ∙ first.same.files;
     output = then.same.output ∙ first.same.output;
-    file_faults = omega (arith, first.same.file_faults, then.same.file_faults);
+    faults = omega (arith, first.same.faults, then.same.faults);
     output_faults = then.same.output_faults ∙ first.same.output_faults;
   };
 }

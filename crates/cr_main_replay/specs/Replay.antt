@@ -75,7 +75,7 @@ pub record HasRead (those : List Reading) (old new : Outside) : Type 0 where
 pub data StopsAt (one : Reading) (old new : Outside) (status : ℕ) : Type 0 where
   not_there : FileLacks old.files one.name → new.files ≡ old.files → new.story ≡ with_event (Read one.name one.most outcome.Absent) old.story
       → Refuses old new one.name refusal.NoFile status → StopsAt one old new status
-  unreadable : Rose old.file_faults new.file_faults → new.files ≡ old.files → new.story ≡ with_event (Read one.name one.most outcome.Failed) old.story
+  unreadable : Rose old.faults new.faults → new.files ≡ old.files → new.story ≡ with_event (Read one.name one.most outcome.Failed) old.story
       → Refuses old new one.name refusal.FileFault status → StopsAt one old new status
   no_memory : new.files ≡ old.files → (new.story ≡ old.story) ⊎ (new.story ≡ with_event (Read one.name one.most outcome.NoMemory) old.story)
       → new.output ≡ old.output → status ≡ 11 → StopsAt one old new status
@@ -153,4 +153,4 @@ pub record IsReplayed (r : Replaying) (files : Option Names) : Type 0 where
 -- Where the map is told, and the log leads from the copy to the file, it is taken, but for a fault of the files and want of memory.
 abbrev pub TakesEveryLead : Replaying → Type 0
 TakesEveryLead r = (files : Names) (old new : Outside) (status : ℕ) → old.files ≡ Some files → IsReplayed r (Some files) → RunsReplay r old new status
-    → (status ≡ 0) ⊎ ((status ≡ 10) ⊎ ((status ≡ 11) ⊎ Rose old.file_faults new.file_faults))
+    → (status ≡ 0) ⊎ ((status ≡ 10) ⊎ ((status ≡ 11) ⊎ Rose old.faults new.faults))

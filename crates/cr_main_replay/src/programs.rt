@@ -24,7 +24,7 @@ pub fn replay_programs<F: Files, O: Sink>(
     out: &mut O,
 ) -> u8
     ensures runs { RunsReplay (replaying_of steps enabled log.now file.now)
-        (outside F.Outside F.Files.own files.old O.Sink out.old) (outside F.Outside F.Files.own files.new O.Sink out.new) result }
+        (outside F.Outside files.old O.Sink out.old) (outside F.Outside files.new O.Sink out.new) result }
 
     // At 0 and 10 the log leads from the copy to the file, whoever wrote it.
     ensures replayed { (result ≡ 0) ⊎ (result ≡ 10) → IsReplayed (replaying_of steps enabled log.now file.now) (files_told (F.story files.old)) }

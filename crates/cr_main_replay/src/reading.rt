@@ -29,12 +29,12 @@ pub fn read_texts<F: Files, O: Sink>(
     out: &mut O,
 ) -> Result<Texts, u8>
     ensures read { IfOk result (λ _. HasRead (readings_of copy.now log.now file.now)
-        (outside F.Outside F.Files.own files.old O.Sink out.old) (outside F.Outside F.Files.own files.new O.Sink out.new)) }
+        (outside F.Outside files.old O.Sink out.old) (outside F.Outside files.new O.Sink out.new)) }
     ensures copy { IfOk result (λ texts. FileBegins (files_told (F.story files.old)) copy.now 1048577 texts.copy.items) }
     ensures log { IfOk result (λ texts. FileBegins (files_told (F.story files.old)) log.now 1073741824 texts.log.items × (length texts.log.items ≤ 1073741824)) }
     ensures file { IfOk result (λ texts. FileBegins (files_told (F.story files.old)) file.now 1048577 texts.file.items) }
     ensures unread { IfErr result (λ status. Unread (readings_of copy.now log.now file.now)
-        (outside F.Outside F.Files.own files.old O.Sink out.old) (outside F.Outside F.Files.own files.new O.Sink out.new) status) }
+        (outside F.Outside files.old O.Sink out.old) (outside F.Outside files.new O.Sink out.new) status) }
 {
     let copy = read_one(alloc, copy, MOST_READ, files, out)?;
     let log = read_one(alloc, log, MOST_OF_LOG, files, out)?;
@@ -51,11 +51,11 @@ fn read_one<F: Files, O: Sink>(
     out: &mut O,
 ) -> Result<Vec<u8>, u8>
     ensures read { IfOk result (λ _. HasRead (record { name = name.now; most = most } ∷ [])
-        (outside F.Outside F.Files.own files.old O.Sink out.old) (outside F.Outside F.Files.own files.new O.Sink out.new)) }
+        (outside F.Outside files.old O.Sink out.old) (outside F.Outside files.new O.Sink out.new)) }
     ensures begins { IfOk result (λ bytes. FileBegins (files_told (F.story files.old)) name.now most bytes.items) }
     ensures short { IfOk result (λ bytes. length bytes.items ≤ most) }
     ensures stops { IfErr result (λ status. StopsAt (record { name = name.now; most = most })
-        (outside F.Outside F.Files.own files.old O.Sink out.old) (outside F.Outside F.Files.own files.new O.Sink out.new) status) }
+        (outside F.Outside files.old O.Sink out.old) (outside F.Outside files.new O.Sink out.new) status) }
 {
     let mut bytes = match files.read(alloc, name, most) {
         ReadAnswer::Bytes(bytes) => bytes,

@@ -33,7 +33,7 @@ pub fn run_replay<P: Passes, L: Law, F: Files, O: Sink>(
 ) -> u8
     requires law { IsOfPrograms (L.lawful replay.now.law.now) (L.reasons replay.now.law.now) }
     ensures runs { RunsReplay (replaying P.Passes L.Law replay.now)
-        (outside F.Outside F.Files.own files.old O.Sink out.old) (outside F.Outside F.Files.own files.new O.Sink out.new) result }
+        (outside F.Outside files.old O.Sink out.old) (outside F.Outside files.new O.Sink out.new) result }
 
     // At 0 and 10 the log leads from the copy to the file, whoever wrote it.
     ensures replayed { (result ≡ 0) ⊎ (result ≡ 10) → IsReplayed (replaying P.Passes L.Law replay.now) (files_told (F.story files.old)) }

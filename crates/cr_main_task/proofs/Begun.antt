@@ -14,7 +14,7 @@ use Rattle.cr_main_task.specs.Run.RunsBy.{reduces, refuses, starves}
 use Rattle.cr_main_task.specs.Task.{Task, given}
 
 pub nothing_yet : (old : Outside) → IsUnchanged old old
-nothing_yet old = record { files = refl; output = refl; file_faults = omega arith; output_faults = refl }
+nothing_yet old = record { files = refl; output = refl; faults = omega arith; output_faults = refl }
 
 module _ (t : Task) (By : Claiming) (bytes : List ℕ) (old new : Outside) (before after : Judging) (status : ℕ) where
   pub stopped : StopsEarly t bytes old new before after status → RunsBy t By (given bytes) old new before after status
@@ -30,7 +30,7 @@ module _ (t : Task) (By : Claiming) (bytes : List ℕ) (old new : Outside) (befo
         story = (copied.story, begun.copied.story, told);
         files = same.files ∙ begun.copied.files;
         output = same.output ∙ begun.copied.output;
-        file_faults = omega (arith, begun.copied.file_faults, same.file_faults);
+        faults = omega (arith, begun.copied.faults, same.faults);
         output_faults = same.output_faults ∙ begun.copied.output_faults;
       } in
       reduces bytes old since (nothing_yet old) (refl, refl) begun.answered (reduced kept end old_size size copy claims begun.sized sized ends)

@@ -26,11 +26,12 @@ use Rattle.cr_main_task.proofs.Calls.{task_faults}
 use Rattle.cr_main_task.proofs.Completing.{IsFree, task_free}
 use Rattle.cr_main_task.proofs.Endings.{IsLate, task_ends}
 use Rattle.cr_main_task.proofs.Headlines.{IsDone, task_done}
-use Rattle.cr_main_task.proofs.Journals.{task_keeps_journal}
+use Rattle.cr_main_task.proofs.Journals.{Any, journal_steps}
 use Rattle.cr_main_task.proofs.Keeping.{task_keeps}
 use Rattle.cr_main_task.proofs.Reading.{opened_run}
+use Rattle.cr_main_task.proofs.Steps.{bound_steps}
 use Rattle.cr_main_task.proofs.Unfailing.{task_never_fails}
-use Rattle.cr_main_task.proofs.Unopened.{unopened_fault, unopened_files, unopened_is_not, unopened_journal}
+use Rattle.cr_main_task.proofs.Unopened.{unopened_fault, unopened_files, unopened_is_not}
 
 module _ (law : Ruled) (at : List ℕ → Task) (By : List ℕ → Claiming) (name : List ℕ) (text : Text) (old new : Outside) (before after : Judging) (status : ℕ) where
   on_task : (bytes : List ℕ) (read : Outside) → IsOpened law text old read bytes → RunsBy (at bytes) (By bytes) (given bytes) read new before after status
@@ -76,9 +77,8 @@ module _ (law : Ruled) (at : List ℕ → Task) (By : List ℕ → Claiming) (na
         (on_task bytes read opened run)
 
     bound_journal : RunsBound law at By name text old new before after status → KeepsJournal old.story new.story
-    bound_journal (not_opened why quiet) = unopened_journal law name text old new status keeps why
-    bound_journal (on_bytes bytes read opened run) =
-        task_keeps_journal (at bytes) (By bytes) (read_of text bytes) (λ a b tells. ap journal_told (silent bytes a b tells)) keeps old new before after status (on_task bytes read opened run)
+    bound_journal run =
+        bound_steps KeepsJournal Any Any journal_steps law name text keeps old new status at By before after (λ bytes a b tells. ap journal_told (silent bytes a b tells)) (λ bytes on. (tt, tt, tt)) run
 
     pub bound_promises : RunsBound law at By name text old new before after status → PromisesBound at By text old new before after status
     bound_promises run = record {

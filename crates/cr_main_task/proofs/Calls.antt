@@ -51,7 +51,7 @@ no_end why.Limit is = omega (arith, is)
 no_end (why.Fault turn worker) is = omega (arith, is)
 no_end why.NoMemory is = omega (arith, is)
 
-summed_not_9 : (old new : Outside) (line : List ℕ) (why : Why) (status : ℕ) → Puts old new line (end_status why) 10 status → status ≡ 9 → ⊥
+pub summed_not_9 : (old new : Outside) (line : List ℕ) (why : Why) (status : ℕ) → Puts old new line (end_status why) 10 status → status ≡ 9 → ⊥
 summed_not_9 old new line why status (said_whole put is) nine = no_end why (sym is ∙ nine)
 summed_not_9 old new line why status (said_cut n put rose is) nine = omega (arith, is, nine)
 summed_not_9 old new line why status (said_starved n put is) nine = omega (arith, is, nine)

@@ -51,8 +51,8 @@ module _ (t : Task) (By : Claiming) (told_of : (since now : Judging) (bytes : Li
     (cause_of : (since now : Judging) (bytes : List ℕ) (end : End) → By.Claims since now bytes end → FaultsWithCause t.search since now end.why) (text : Text) (old new : Outside) (before after : Judging) (all : HasAll t text old new before after) (levels : ℕ → ℕ) (has : HasLevels t.search.Offers levels)
     (bytes_enough : (n size : ℕ) → size ≤ 12 * n → enough_turns levels size ≤ enough_for n)
     (apart : (file : List ℕ) → t.search.Tells file true → t.search.Tells file false → ⊥) where
-  file_never_fails : {bytes : List ℕ} (saves : Bool) (read : Outside) (name : List ℕ) (status : ℕ) → old.file_faults ≤ read.file_faults → Fails saves read new name bytes status → IsFree status
-  file_never_fails saves read name status later (call_failed on rose calls said) = absurd (all.no_file_fault (rose_earlier old.file_faults read.file_faults new.file_faults later rose))
+  file_never_fails : {bytes : List ℕ} (saves : Bool) (read : Outside) (name : List ℕ) (status : ℕ) → old.faults ≤ read.faults → Fails saves read new name bytes status → IsFree status
+  file_never_fails saves read name status later (call_failed on rose calls said) = absurd (all.no_file_fault (rose_earlier old.faults read.faults new.faults later rose))
   file_never_fails saves read name status later (starved calls silent is) = inr is
 
   judge_never_fails : (since : Judging) (worker : ℕ) → GoesOn before since → RoseAt worker since.faults after.faults → ⊥
@@ -86,20 +86,20 @@ module _ (t : Task) (By : Claiming) (told_of : (since now : Judging) (bytes : Li
   said_free faults told line whole status later free (said_cut n put rose is) = absurd (all.no_output_fault (rose_earlier old.output_faults faults new.output_faults later rose))
   said_free faults told line whole status later free (said_starved n put is) = inr is
 
-  conclude_free : (saves : Bool) (name : List ℕ) (copied : Outside) (end : End) (old_size size status : ℕ) → old.file_faults ≤ copied.file_faults → old.output_faults ≤ copied.output_faults → IsFree (end_status end.why)
+  conclude_free : (saves : Bool) (name : List ℕ) (copied : Outside) (end : End) (old_size size status : ℕ) → old.faults ≤ copied.faults → old.output_faults ≤ copied.output_faults → IsFree (end_status end.why)
       → Concludes saves name copied new end old_size size status → IsFree status
   conclude_free saves name copied end old_size size status files outputs free (unfinished unmoved is) = inr is
   conclude_free saves name copied end old_size size status files outputs free (unwritten ended fails) = file_never_fails saves copied name status files fails.fails
   conclude_free saves name copied end old_size size status files outputs free (unlogged written ended first fails) =
-      file_never_fails saves written (log_name name) status (omega (arith, files, first.file_faults)) fails.fails
+      file_never_fails saves written (log_name name) status (omega (arith, files, first.faults)) fails.fails
   conclude_free saves name copied end old_size size status files outputs free (summed_up ended put calls said) = said_free copied.output_faults copied.output _ (end_status end.why) status outputs free said
 
   finish_free : (read : Outside) (since : Judging) (bytes : List ℕ) (status : ℕ) → IsUnchanged old read → GoesOn before since → bytes ≡ all.bytes
       → Finishes t bytes By read new since after status → IsFree status
   finish_free read since bytes status unmoved on is (unstarted none quiet starved_so) = inr starved_so
-  finish_free read since bytes status unmoved on is (uncopied fails quiet) = file_never_fails t.saves read (copy_name t.name) status unmoved.file_faults fails.fails
+  finish_free read since bytes status unmoved on is (uncopied fails quiet) = file_never_fails t.saves read (copy_name t.name) status unmoved.faults fails.fails
   finish_free read since bytes status unmoved on is (reduced copied end old_size size copy reduction old_sized sized ends) =
-      conclude_free t.saves t.name copied end old_size size status (omega (arith, unmoved.file_faults, copy.file_faults)) (omega (arith, unmoved.output_faults, copy.output_faults))
+      conclude_free t.saves t.name copied end old_size size status (omega (arith, unmoved.faults, copy.faults)) (omega (arith, unmoved.output_faults, copy.output_faults))
       (end_free since end.why on (never_limit since bytes end old_size is old_sized reduction) (cause_of since after bytes end reduction)) ends
 
   pub task_free : (status : ℕ) → RunsBy t By text old new before after status → IsFree status

@@ -20,5 +20,7 @@ pub mod Bound
 pub mod Bindings
 pub mod Begun
 pub mod Calls
+pub mod Steps
 pub mod Journals
+pub mod Rising
 pub mod Others

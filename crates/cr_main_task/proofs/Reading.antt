@@ -44,7 +44,7 @@ module _ (law : Ruled) (t : Task) (By : Claiming) (bytes : List ℕ) (text : Tex
   caused (refusal.Against reason) it = record { bytes = it.bytes; has = it.has; unlawful = it.unlawful; against = it.against }
   caused refusal.SaysNo it = (it.0, answered_there it.0 after _ it.1)
   caused refusal.TestFailed it = (it.0, answered_there it.0 after _ it.1, it.2, it.3)
-  caused refusal.FileFault rose = rose_earlier old.file_faults read.file_faults new.file_faults opened.same.file_faults rose
+  caused refusal.FileFault rose = rose_earlier old.faults read.faults new.faults opened.same.faults rose
 
   opens : (end : Outcome) (story : Option Story) → (given bytes).Opens end read.story story → text.Opens end old.story story
   opens end story calls = subst (λ e. text.Opens e old.story story) (sym calls.0) (subst (λ s. text.Opens outcome.Done old.story s) (sym calls.1) opened.calls)
@@ -57,7 +57,7 @@ module _ (law : Ruled) (t : Task) (By : Claiming) (bytes : List ℕ) (text : Tex
   unchanged later same = record {
     files = same.files ∙ opened.same.files;
     output = same.output ∙ opened.same.output;
-    file_faults = omega (arith, opened.same.file_faults, same.file_faults);
+    faults = omega (arith, opened.same.faults, same.faults);
     output_faults = same.output_faults ∙ opened.same.output_faults;
   }
 

@@ -8,7 +8,6 @@ use Rattle.cr_main_task.specs.Messages.{reason_status, refusal_status}
 use Rattle.cr_main_task.specs.Opening.{Ruled, Unopened}
 use Rattle.cr_main_task.specs.Opening.Unopened.{not_there, ruled_out, unopened, unread}
 use Rattle.cr_main_task.specs.Outside.{Outside, Refuses}
-use Rattle.cr_main_task.specs.Story.{KeepsJournal}
 use Rattle.cr_main_task.specs.Task.{Text}
 use Rattle.cr_main_task.specs.declared.messages.Refusal.{Refusal}
 use Rattle.cr_main_task.specs.declared.messages.Refusal.TheVariants as refusal
@@ -38,13 +37,6 @@ module _ (law : Ruled) (name : List ℕ) (text : Text) (old new : Outside) (stat
       refused_status old new name (refusal.Against reason) status n said is (λ it. reason_is_not reason n it b c) e
   unopened_is_not n a b c d e (unread rose files calls said) is = refused_status old new name refusal.FileFault status n said is (λ it. d (sym it)) e
   unopened_is_not n a b c d e (unopened files calls mute starved) is = e (sym is ∙ starved)
-
-  pub unopened_journal : ((end : Outcome) (first last : Option Story) → text.Opens end first last → KeepsJournal first last) → Unopened law name text old new status → KeepsJournal old.story new.story
-  unopened_journal keeps (not_there lacks files calls said) = keeps outcome.Absent old.story new.story calls
-  unopened_journal keeps (ruled_out reason bytes has unlawful against files calls said) = keeps outcome.Done old.story new.story calls
-  unopened_journal keeps (unread rose files calls said) = keeps outcome.Failed old.story new.story calls
-  unopened_journal keeps (unopened files (inl calls) mute is) = keeps outcome.Done old.story new.story calls
-  unopened_journal keeps (unopened files (inr calls) mute is) = keeps outcome.NoMemory old.story new.story calls
 
   pub unopened_fault : ((first last : Option Story) → text.Opens outcome.Failed first last → EndsWithFault first last) → status ≡ 9 → Unopened law name text old new status → EndsWithFault old.story new.story
   unopened_fault fails nine (not_there lacks files calls said) = absurd (refused_status old new name refusal.NoFile status 9 said nine (λ e. omega (arith, e)) (λ e. omega (arith, e)))

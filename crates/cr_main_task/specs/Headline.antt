@@ -98,7 +98,7 @@ pub record HasAll (t : Task) (text : Text) (old new : Outside) (before after : J
   pub lawful : t.search.Lawful bytes
   pub all_told : IsAllTold t.search
   pub yes : t.search.Tells bytes true
-  pub no_file_fault : Rose old.file_faults new.file_faults → ⊥
+  pub no_file_fault : Rose old.faults new.faults → ⊥
   pub no_output_fault : Rose old.output_faults new.output_faults → ⊥
   pub no_judge_fault : (worker : ℕ) → RoseAt worker before.faults after.faults → ⊥
   pub enough : Within t.limit (enough_for (length bytes))

@@ -30,7 +30,7 @@ pub data Unopened (law : Ruled) (name : List ℕ) (text : Text) (old new : Outsi
   not_there : text.Lacks → new.files ≡ old.files → text.Opens Absent old.story new.story → Refuses old new name refusal.NoFile status → Unopened law name text old new status
   ruled_out : (reason : Reason) (bytes : List ℕ) → text.Has bytes → (law.Lawful bytes → ⊥) → law.Against bytes reason → new.files ≡ old.files
       → text.Opens Done old.story new.story → Refuses old new name (refusal.Against reason) status → Unopened law name text old new status
-  unread : Rose old.file_faults new.file_faults → new.files ≡ old.files → text.Opens Failed old.story new.story → Refuses old new name refusal.FileFault status → Unopened law name text old new status
+  unread : Rose old.faults new.faults → new.files ≡ old.files → text.Opens Failed old.story new.story → Refuses old new name refusal.FileFault status → Unopened law name text old new status
   unopened : new.files ≡ old.files → MayOpen text old.story new.story → new.output ≡ old.output → status ≡ 11 → Unopened law name text old new status
 
 -- these bytes, which were read of the text

@@ -7,7 +7,6 @@ use Rattle.cr_outside.specs.Sink.{appended}
 use Rattle.cr_outside.specs.Story.{Story, files_told, with_event}
 use Rattle.cr_outside.specs.Story.Event.{Wrote}
 use Rattle.cr_outside.specs.declared.files.FileFault.TheVariants as fault
-use Rattle.cr_outside.specs.declared.files.Files.{Ghosts as FilesGhosts}
 use Rattle.cr_outside.specs.declared.sink.Sink.{Ghosts as SinkGhosts}
 use Rattle.cr_outside.specs.declared.story.Outcome.TheVariants.{Done}
 use Rattle.cr_outside.specs.declared.story.Outside.{Ghosts as OutsideGhosts}
@@ -15,19 +14,20 @@ use Rattle.cr_main_task.specs.Messages.{refusal_line, refusal_status}
 use Rattle.cr_main_task.specs.declared.messages.Refusal.{Refusal}
 use Rattle.cr_main_task.specs.declared.messages.Refusal.TheVariants.{FileFault}
 
--- the story of the files, with their map as it has it now, and the output, where they are told; and the counts of their faults
+-- the story of the files, with their map as it has it now, and the output, where they are told; and the counts of their faults, one for the files
+-- and the journal
 pub record Outside : Type 0 where
   pub story : Option Story
   pub files : Option Names
-  pub file_faults : ℕ
+  pub faults : ℕ
   pub output : Option (List ℕ)
   pub output_faults : ℕ
 
-abbrev pub outside : {F O : Type 0} → OutsideGhosts F → FilesGhosts F → F → SinkGhosts O → O → Outside
-outside above files f sink o = record {
+abbrev pub outside : {F O : Type 0} → OutsideGhosts F → F → SinkGhosts O → O → Outside
+outside above f sink o = record {
   story = above.story f;
   files = files_told (above.story f);
-  file_faults = files.faults f;
+  faults = above.faults f;
   output = sink.told o;
   output_faults = sink.faults o;
 }
@@ -36,7 +36,7 @@ outside above files f sink o = record {
 pub record IsUnchanged (old new : Outside) : Type 0 where
   pub files : new.files ≡ old.files
   pub output : new.output ≡ old.output
-  pub file_faults : old.file_faults ≤ new.file_faults
+  pub faults : old.faults ≤ new.faults
   pub output_faults : new.output_faults ≡ old.output_faults
 
 -- One line is put, and the run ends: with the one status where it was put whole, with the other where the put failed
@@ -68,12 +68,12 @@ pub record IsSaved (saves : Bool) (old new : Outside) (name bytes : List ℕ) : 
   pub story : new.story ≡ story_saved saves name bytes old.story
   pub files : new.files ≡ saved saves name bytes old.files
   pub output : new.output ≡ old.output
-  pub file_faults : old.file_faults ≤ new.file_faults
+  pub faults : old.faults ≤ new.faults
   pub output_faults : new.output_faults ≡ old.output_faults
 
 -- The write failed, and was the last call, and the line names its file; or no memory was left, before the call or for it.
 pub data Fails (saves : Bool) (old new : Outside) (name bytes : List ℕ) (status : ℕ) : Type 0 where
-  call_failed : saves ≡ true → Rose old.file_faults new.file_faults → TellsWrite old.story new.story name bytes (Err fault.Failed) → Refuses old new name FileFault status
+  call_failed : saves ≡ true → Rose old.faults new.faults → TellsWrite old.story new.story name bytes (Err fault.Failed) → Refuses old new name FileFault status
       → Fails saves old new name bytes status
   starved : (new.story ≡ old.story) ⊎ (saves ≡ true) × TellsWrite old.story new.story name bytes (Err fault.NoMemory) → new.output ≡ old.output → status ≡ 11
       → Fails saves old new name bytes status

@@ -54,7 +54,7 @@ Causes t text old new before after (refusal.Against reason) = IsRuledOut t text 
 Causes t text old new before after refusal.SaysNo = (bytes : List ℕ) × IsAnswered t text before after bytes No
 Causes t text old new before after refusal.TestFailed =
     (bytes : List ℕ) × IsAnswered t text before after bytes Failed × (t.search.asks ≡ true) × RoseAt 0 before.faults after.faults
-Causes t text old new before after refusal.FileFault = Rose old.file_faults new.file_faults
+Causes t text old new before after refusal.FileFault = Rose old.faults new.faults
 
 -- how the bytes were read before it
 abbrev pub opening_of : Refusal → Outcome
@@ -107,7 +107,7 @@ pub record IsCopied (Tells : Option Story → Option Story → Type 0) (saves : 
   pub story : (copied : Option Story) × (copied ≡ story_saved saves name bytes old.story) × Tells copied new.story
   pub files : new.files ≡ saved saves name bytes old.files
   pub output : new.output ≡ old.output
-  pub file_faults : old.file_faults ≤ new.file_faults
+  pub faults : old.faults ≤ new.faults
   pub output_faults : new.output_faults ≡ old.output_faults
 
 -- What comes once the test has said yes to these bytes, with this claimed of their reduction.

@@ -31,9 +31,9 @@ pub fn begin<P: Passes, L: Law, A, Q: Question, F: Files, J: Judge, O: Sink>(
     requires law { IsOfPrograms (L.lawful task.now.law.now) (L.reasons task.now.law.now) }
     requires lawful { L.lawful task.now.law.now bytes.now.items }
     ensures begun { IfOk result (λ size. HasBegun (task_for P.Passes L.Law Q.Question task.now question.now (says_of J.Judge bench.old)) bytes.now.items
-        (outside F.Outside F.Files.own files.old O.Sink out.old) (outside F.Outside F.Files.own files.new O.Sink out.new) (judging J.Judge bench.old) (judging J.Judge bench.new) size) }
+        (outside F.Outside files.old O.Sink out.old) (outside F.Outside files.new O.Sink out.new) (judging J.Judge bench.old) (judging J.Judge bench.new) size) }
     ensures stopped { IfErr result (λ status. StopsEarly (task_for P.Passes L.Law Q.Question task.now question.now (says_of J.Judge bench.old)) bytes.now.items
-        (outside F.Outside F.Files.own files.old O.Sink out.old) (outside F.Outside F.Files.own files.new O.Sink out.new) (judging J.Judge bench.old) (judging J.Judge bench.new) status) }
+        (outside F.Outside files.old O.Sink out.old) (outside F.Outside files.new O.Sink out.new) (judging J.Judge bench.old) (judging J.Judge bench.new) status) }
     ensures others { drop 1 bench.new.judges ≡ drop 1 bench.old.judges }
     ensures silent { Q.asks question.now ≡ false → bench.new.judges ≡ bench.old.judges }
     ensures keys { keys_of J.Judge bench.new ≡ keys_of J.Judge bench.old }
@@ -59,8 +59,8 @@ fn copy<P: Passes, L: Law, A, F: Files, O: Sink>(
 ) -> Result<u64, u8>
     requires { IsTokenized bytes.now.items }
     ensures copied { IfOk result (λ size. HasSize bytes.now.items size × IsSaved task.now.saves
-        (outside F.Outside F.Files.own files.old O.Sink out.old) (outside F.Outside F.Files.own files.new O.Sink out.new) (copy_name task.now.name.now) bytes.now.items) }
-    ensures failed { IfErr result (λ status. SaveFails task.now.saves (outside F.Outside F.Files.own files.old O.Sink out.old) (outside F.Outside F.Files.own files.new O.Sink out.new) (copy_name task.now.name.now) bytes.now.items status) }
+        (outside F.Outside files.old O.Sink out.old) (outside F.Outside files.new O.Sink out.new) (copy_name task.now.name.now) bytes.now.items) }
+    ensures failed { IfErr result (λ status. SaveFails task.now.saves (outside F.Outside files.old O.Sink out.old) (outside F.Outside files.new O.Sink out.new) (copy_name task.now.name.now) bytes.now.items status) }
 {
     let size = match size_of(alloc, bytes) {
         Ok(size) => size,

@@ -30,7 +30,7 @@ pub fn conclude<P: Passes, L: Law, A, F: Files, O: Sink>(
     requires sized { (n : ℕ) × HasSize end.now.file.items n }
     requires passes { All (λ one. one.at.pass < pass_count) end.now.accepted.items }
     ensures { (n : ℕ) × HasSize end.now.file.items n × Concludes task.now.saves task.now.name.now
-        (outside F.Outside F.Files.own files.old O.Sink out.old) (outside F.Outside F.Files.own files.new O.Sink out.new) end.now old_size n result }
+        (outside F.Outside files.old O.Sink out.old) (outside F.Outside files.new O.Sink out.new) end.now old_size n result }
 {
     let texts = match texts_of(alloc, task.name, end, old_size) {
         Ok(texts) => texts,

@@ -25,9 +25,9 @@ pub fn open<L: Law, F: Files, O: Sink>(
 ) -> Result<Vec<u8>, u8>
     requires law { IsOfPrograms (L.lawful law.now) (L.reasons law.now) }
     ensures opened { IfOk result (λ bytes. IsOpened (record { Lawful = L.lawful law.now; Against = L.reasons law.now }) (stored (files_told (F.story files.old)) name.now)
-        (outside F.Outside F.Files.own files.old O.Sink out.old) (outside F.Outside F.Files.own files.new O.Sink out.new) bytes.items) }
+        (outside F.Outside files.old O.Sink out.old) (outside F.Outside files.new O.Sink out.new) bytes.items) }
     ensures unopened { IfErr result (λ status. Unopened (record { Lawful = L.lawful law.now; Against = L.reasons law.now }) name.now (stored (files_told (F.story files.old)) name.now)
-        (outside F.Outside F.Files.own files.old O.Sink out.old) (outside F.Outside F.Files.own files.new O.Sink out.new) status) }
+        (outside F.Outside files.old O.Sink out.old) (outside F.Outside files.new O.Sink out.new) status) }
 {
     let bytes = match files.read(alloc, name, MOST_READ) {
         ReadAnswer::Bytes(bytes) => bytes,

@@ -44,7 +44,7 @@ where
     requires lawful { L.lawful task.now.law.now bytes.items }
     requires binds { A.binds task.now.asking.now bytes.items }
     ensures runs { RunsTask (task_at P.Passes L.Law A.Asking task.now (says_of J.Judge bench.old) bytes.items) (given bytes.items)
-        (outside F.Outside F.Files.own files.old O.Sink out.old) (outside F.Outside F.Files.own files.new O.Sink out.new)
+        (outside F.Outside files.old O.Sink out.old) (outside F.Outside files.new O.Sink out.new)
         (judging J.Judge bench.old) (judging J.Judge bench.new) result }
     // Workers that the task doesn't ask for do nothing.
     ensures others { drop task.now.workers bench.new.judges ≡ drop task.now.workers bench.old.judges }
@@ -88,7 +88,7 @@ where
     requires forgot { bench.old.kept ≡ [] }
     requires lawful { L.lawful task.now.law.now bytes.items }
     ensures runs { RunsTask (task_for P.Passes L.Law Q.Question task.now question.now (says_of J.Judge bench.old)) (given bytes.items)
-        (outside F.Outside F.Files.own files.old O.Sink out.old) (outside F.Outside F.Files.own files.new O.Sink out.new)
+        (outside F.Outside files.old O.Sink out.old) (outside F.Outside files.new O.Sink out.new)
         (judging J.Judge bench.old) (judging J.Judge bench.new) result }
     ensures others { drop task.now.workers bench.new.judges ≡ drop task.now.workers bench.old.judges }
     ensures silent { Q.asks question.now ≡ false → bench.new.judges ≡ bench.old.judges }

@@ -20,9 +20,9 @@ pub fn save<F: Files, O: Sink>(
     bytes: &[u8],
 ) -> Option<u8>
     ensures saved { result ≡ None → IsSaved saves
-        (outside F.Outside F.Files.own files.old O.Sink out.old) (outside F.Outside F.Files.own files.new O.Sink out.new) name.now bytes.now }
+        (outside F.Outside files.old O.Sink out.old) (outside F.Outside files.new O.Sink out.new) name.now bytes.now }
     ensures failed { (status : ℕ) → result ≡ Some status → SaveFails saves
-        (outside F.Outside F.Files.own files.old O.Sink out.old) (outside F.Outside F.Files.own files.new O.Sink out.new) name.now bytes.now status }
+        (outside F.Outside files.old O.Sink out.old) (outside F.Outside files.new O.Sink out.new) name.now bytes.now status }
 {
     if !saves {
         return None;
@@ -44,9 +44,9 @@ pub fn save_beside<P: Passes, L: Law, A, F: Files, O: Sink>(
     bytes: &[u8],
 ) -> Option<u8>
     ensures saved { result ≡ None → IsSaved task.now.saves
-        (outside F.Outside F.Files.own files.old O.Sink out.old) (outside F.Outside F.Files.own files.new O.Sink out.new) (task.now.name.now ++ ending.now) bytes.now }
+        (outside F.Outside files.old O.Sink out.old) (outside F.Outside files.new O.Sink out.new) (task.now.name.now ++ ending.now) bytes.now }
     ensures failed { (status : ℕ) → result ≡ Some status → SaveFails task.now.saves
-        (outside F.Outside F.Files.own files.old O.Sink out.old) (outside F.Outside F.Files.own files.new O.Sink out.new) (task.now.name.now ++ ending.now) bytes.now status }
+        (outside F.Outside files.old O.Sink out.old) (outside F.Outside files.new O.Sink out.new) (task.now.name.now ++ ending.now) bytes.now status }
 {
     match beside(alloc, task.name, ending) {
         Ok(name) => save(alloc, task.saves, files, out, name.as_str(), bytes),

@@ -8,7 +8,7 @@ use Rattle.std.specs.Ordering.{eq_by_cmp, nat_cmp}
 use Rattle.cr_outside.specs.Files.{Names, content_of}
 use Rattle.cr_outside.specs.MemFiles.{named, files_of_pairs, pair_of, put_by, put_last}
 use Rattle.cr_outside.specs.Story.{Event, after_event, files_after}
-use Rattle.cr_outside.specs.Story.Event.{Read, Wrote, Changed}
+use Rattle.cr_outside.specs.Story.Event.{Read, Wrote, Opened, Changed}
 
 pub content_is_named : (pairs : List (String Global × Vec ℕ)) (name : List ℕ) → content_of (files_of_pairs pairs) name ≡ named pairs name
 content_is_named pairs name = finite.get-from_entries nat_list_cmp_total (map pair_of pairs) name
@@ -22,6 +22,7 @@ content_after (Wrote other bytes outcome true) files name =
     finite.get-insert nat_list_cmp_total files other bytes name ∙ some_or (eq_by_cmp (slice_cmp nat_cmp) name other) bytes (content_of files name)
 content_after (Wrote other bytes outcome false) files name = refl
 content_after (Read other most outcome) files name = refl
+content_after (Opened other) files name = refl
 content_after (Changed change) files name = refl
 
 or_grouped : (a b c : Option (List ℕ)) → option_or a (option_or b c) ≡ option_or (option_or a b) c

@@ -11,3 +11,4 @@ pub mod Scripted
 pub mod Question
 pub mod HasText
 pub mod Test
+pub mod Touches

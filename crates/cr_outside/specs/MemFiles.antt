@@ -13,7 +13,7 @@ use Rattle.cr_outside.specs.declared.memory_files.MemFiles.{MemFiles}
 use Rattle.cr_outside.specs.declared.story.Change.{Change}
 use Rattle.cr_outside.specs.declared.story.Change.TheVariants.{Written, Cut, Synced}
 use Rattle.cr_outside.specs.declared.story.Event.{Event}
-use Rattle.cr_outside.specs.declared.story.Event.TheVariants.{Read, Wrote, Changed}
+use Rattle.cr_outside.specs.declared.story.Event.TheVariants.{Read, Wrote, Opened, Changed}
 
 -- a name with its bytes
 abbrev pub pair_of : (String Global × Vec ℕ) → (List ℕ × List ℕ)
@@ -31,6 +31,7 @@ change_of Synced = story.Change.Synced
 abbrev pub event_of : Event → story.Event
 event_of (Read name most outcome) = story.Event.Read (string_bytes name) most outcome
 event_of (Wrote name bytes outcome is_put) = story.Event.Wrote (string_bytes name) bytes.items outcome is_put
+event_of (Opened name) = story.Event.Opened (string_bytes name)
 event_of (Changed change) = story.Event.Changed (change_of change)
 
 -- the story of these files, of this journal, and of these events, the newest first
@@ -51,6 +52,7 @@ named pairs name = finite.find (slice_cmp nat_cmp) name (map pair_of pairs)
 abbrev pub put_by : story.Event → List ℕ → Option (List ℕ)
 put_by (story.Event.Wrote other bytes outcome is_put) name = cond is_put (cond (eq_by_cmp (slice_cmp nat_cmp) name other) (Some bytes) None) None
 put_by (story.Event.Read other most outcome) name = None
+put_by (story.Event.Opened other) name = None
 put_by (story.Event.Changed change) name = None
 
 -- the bytes put last under this name

@@ -12,10 +12,12 @@ pub data Change : Type 0 where
   Synced : Change
 
 -- One event. A read has the file's name and the most bytes that were asked for; what it gave are these of the file as
--- it was then. A write has the name, the bytes, and whether the pair was put, which a refused one may have been.
+-- it was then. A write has the name, the bytes, and whether the pair was put, which a refused one may have been. An opening has the name of the
+-- file that was opened as the journal, which changes nothing.
 pub data Event : Type 0 where
   Read : List ℕ → ℕ → Outcome → Event
   Wrote : List ℕ → List ℕ → Outcome → Bool → Event
+  Opened : List ℕ → Event
   Changed : Change → Event
 
 -- the files and the journal at first, and the events since, the newest first
@@ -29,6 +31,7 @@ abbrev pub after_event : Event → Names → Names
 after_event (Wrote name bytes outcome true) files = with_file name bytes files
 after_event (Wrote name bytes outcome false) files = files
 after_event (Read name most outcome) files = files
+after_event (Opened name) files = files
 after_event (Changed change) files = files
 
 abbrev pub files_after : Names → List Event → Names
@@ -44,6 +47,7 @@ abbrev pub changes_of : List Event → List Change
 changes_of [] = []
 changes_of (Changed change ∷ older) = change ∷ changes_of older
 changes_of (Read name most outcome ∷ older) = changes_of older
+changes_of (Opened name ∷ older) = changes_of older
 changes_of (Wrote name bytes outcome is_put ∷ older) = changes_of older
 
 abbrev pub gone_on : Event → Story → Story
@@ -68,6 +72,7 @@ GoesOn (Some old) (Some new) = (more : List Event) × (new.files ≡ old.files) 
 abbrev pub IsFault : Event → Type 0
 IsFault (Read name most outcome) = outcome ≡ Failed
 IsFault (Wrote name bytes outcome is_put) = outcome ≡ Failed
+IsFault (Opened name) = ⊥
 IsFault (Changed change) = ⊥
 
 -- Where the story is told, it has gone on, and the last event since is a call on the files that failed.

@@ -1,5 +1,5 @@
 // Files by name, read from their beginning and written whole.
-ghost use Rattle.std.specs.Prelude.{◌≡◌, ◌≤◌, ℕ, IsErrOf};
+ghost use Rattle.std.specs.Prelude.{◌≡◌, ◌≤◌, IsErrOf};
 ghost use Rattle.cr_outside.specs.Calls.{TellsRead, TellsWrite};
 ghost use Rattle.cr_outside.specs.Faults.{Rose};
 ghost use Rattle.cr_outside.specs.Files.{Reads};
@@ -35,19 +35,16 @@ pub enum FileFault {
 
 /// Files by name. An object may tell its story; what it tells is then what its calls read and write, call by call.
 pub trait Files: Outside {
-    /// How often the outside has failed. It never falls.
-    ghost faults: { Self → ℕ };
-
     /// Reads the first `most` bytes of a file.
     fn read(&mut self, alloc: Global, name: &str, most: usize) -> ReadAnswer
         ensures told { Reads (files_told (Self.story self.old)) name.now most result }
         ensures call { TellsRead (Self.story self.old) (Self.story self.new) name.now most result }
-        ensures later { faults self.old ≤ faults self.new }
-        ensures failed { result ≡ ReadAnswer.Failed → Rose (faults self.old) (faults self.new) };
+        ensures later { Self.faults self.old ≤ Self.faults self.new }
+        ensures failed { result ≡ ReadAnswer.Failed → Rose (Self.faults self.old) (Self.faults self.new) };
 
     /// Writes a whole file, which need not be there before. A refused write may have been made all the same.
     fn write(&mut self, alloc: Global, name: &str, bytes: &[u8]) -> Result<(), FileFault>
         ensures call { TellsWrite (Self.story self.old) (Self.story self.new) name.now bytes.now result }
-        ensures later { faults self.old ≤ faults self.new }
-        ensures failed { IsErrOf result FileFault.Failed → Rose (faults self.old) (faults self.new) };
+        ensures later { Self.faults self.old ≤ Self.faults self.new }
+        ensures failed { IsErrOf result FileFault.Failed → Rose (Self.faults self.old) (Self.faults self.new) };
 }

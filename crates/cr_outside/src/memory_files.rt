@@ -5,7 +5,7 @@ ghost use Rattle.cr_outside.specs.Faults.{Rose, raised};
 ghost use Rattle.cr_outside.specs.Files.{Reads, content_of};
 ghost use Rattle.cr_outside.specs.MemFiles.{change_of, event_of, left_by, named, put_by, put_last};
 ghost use Rattle.cr_outside.specs.Story.{gone_on};
-ghost use Rattle.cr_outside.specs.Story.Event.{Changed, Read, Wrote};
+ghost use Rattle.cr_outside.specs.Story.Event.{Changed, Opened, Read, Wrote};
 ghost use Rattle.std.specs.Cmp.Lexicographic.{slice_cmp};
 ghost use Rattle.std.specs.Option.{option_map};
 ghost use Rattle.std.specs.Ordering.{eq_by_cmp, nat_cmp};
@@ -89,6 +89,16 @@ impl MemFiles {
         ensures plan { (self.new.plan ≡ self.old.plan) × (is_late self.new ≡ is_late self.old) }
     {
         self.tell(Event::Changed(change))
+    }
+
+    /// Adds to the story that the file of this name was opened as the journal. It is no call on the files.
+    pub fn open_journal(&mut self, alloc: Global, name: &str) -> Result<(), AllocError>
+        ensures told { OnOk result (story_of self.new ≡ gone_on (Opened name.now) (story_of self.old)) }
+        ensures untold { OnErr result (story_of self.new ≡ story_of self.old) }
+        ensures plan { (self.new.plan ≡ self.old.plan) × (is_late self.new ≡ is_late self.old) }
+    {
+        let name = String::from_str(alloc, name)?;
+        self.tell(Event::Opened(name))
     }
 
     /// The events so far, the newest first.
@@ -197,7 +207,7 @@ fn put_in<'a>(event: &'a Event, name: &str) -> Option<&'a Vec<u8>>
                 None
             }
         }
-        Event::Read(_, _, _) | Event::Changed(_) => None,
+        Event::Read(_, _, _) | Event::Opened(_) | Event::Changed(_) => None,
     }
 }
 
@@ -229,12 +239,12 @@ impl Outside for MemFiles {
     ghost use Rattle.cr_outside.specs.MemFiles.{story_of};
 
     ghost story = { λ m. Some (story_of m) };
+
+    ghost faults = { λ m. m.plan.faults };
 }
 
 impl Files for MemFiles {
     ghost use Rattle.cr_outside.specs.MemFiles.{files_of, story_of, failing_of, calls_of, is_late};
-
-    ghost faults = { λ m. m.plan.faults };
 
     fn read(&mut self, alloc: Global, name: &str, most: usize) -> ReadAnswer
         ensures told { Reads (Some (files_of self.old)) name.now most result }

@@ -1,5 +1,5 @@
 // What the outside did, as one story.
-ghost use Rattle.std.specs.Prelude.{Option};
+ghost use Rattle.std.specs.Prelude.{Option, ℕ};
 ghost use Rattle.cr_outside.specs.Story.{Story};
 
 /// The outside, with one story of all that it did, where it is told. The traits above it say what each call adds: so
@@ -7,6 +7,9 @@ ghost use Rattle.cr_outside.specs.Story.{Story};
 pub trait Outside {
     /// What there was at first, and each event since.
     ghost story: { Self → Option Story };
+
+    /// How often a call on any of it has failed. It never falls.
+    ghost faults: { Self → ℕ };
 }
 
 /// How a call on files ended.
@@ -38,6 +41,8 @@ pub enum Event {
     Read(String, usize, Outcome),
     /// A file was to be written with these bytes, and was or wasn't.
     Wrote(String, Vec<u8>, Outcome, bool),
+    /// The file of this name was opened as the journal.
+    Opened(String),
     /// The journal was changed.
     Changed(Change),
 }

@@ -1,5 +1,5 @@
 -- A disk in memory, beside files in memory.
-use Rattle.std.specs.Prelude.{ℕ, List, [], ◌∷◌}
+use Rattle.std.specs.Prelude.{ℕ, ◌+◌, List, [], ◌∷◌}
 use Rattle.cr_outside.specs.MemFiles as files
 use Rattle.cr_outside.specs.Story.{Story, changes_of}
 use Rattle.cr_outside_disk.specs.Images.{filled}
@@ -21,6 +21,6 @@ calls_of d = d.plan.calls
 abbrev pub filled_image : ℕ → Story → List ℕ
 filled_image fill s = filled fill s.journal (changes_of s.events)
 
--- how often a call on the files has failed
-abbrev pub file_faults_of : MemDisk → ℕ
-file_faults_of d = d.files.plan.faults
+-- how often a call on either has failed
+abbrev pub faults_of : MemDisk → ℕ
+faults_of d = d.files.plan.faults + d.plan.faults

@@ -3,7 +3,7 @@ use Rattle.std.specs.Prelude.{◌≡◌, ◌⊎◌, ℕ, List, [], ◌∷◌, le
 use Rattle.std.specs.Option.{option_map}
 use Rattle.cr_outside.specs.Story.{Change, Story, changes_of, gone_on, with_event}
 use Rattle.cr_outside.specs.Story.Change.{Synced}
-use Rattle.cr_outside.specs.Story.Event.{Changed}
+use Rattle.cr_outside.specs.Story.Event.{Changed, Opened}
 use Rattle.cr_outside_disk.specs.Images.{Leaves, seen_after}
 use Rattle.cr_outside_disk.specs.declared.disk.DiskFault.{DiskFault}
 
@@ -68,6 +68,11 @@ Makes old new change (Err _) = (new ≡ old) ⊎ (new ≡ with_change change old
 abbrev pub Syncs : Option Story → Option Story → Result (Unit {0}) DiskFault → Type 0
 Syncs old new (Ok _) = new ≡ with_change Synced old
 Syncs old new (Err _) = new ≡ old
+
+-- What an opening leaves: it is told, and after a refusal it may be.
+abbrev pub Opens : Option Story → Option Story → List ℕ → Result ℕ DiskFault → Type 0
+Opens old new name (Ok _) = new ≡ with_event (Opened name) old
+Opens old new name (Err _) = (new ≡ old) ⊎ (new ≡ with_event (Opened name) old)
 
 -- What a read of n bytes from a place on gives.
 abbrev pub Gives : Option Story → ℕ → ℕ → List ℕ → Type 0

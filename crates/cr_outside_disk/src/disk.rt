@@ -2,7 +2,7 @@
 ghost use Rattle.std.specs.Prelude.{◌≡◌, ◌+◌, ◌≤◌, ◌^◌, ◌<◌, ℕ, Bool, true, false, length, max, IfOk, IsErrOf, OnOk};
 ghost use Rattle.cr_outside.specs.Faults.{Rose};
 ghost use Rattle.cr_outside.specs.Story.Change.{Written, Cut};
-ghost use Rattle.cr_outside_disk.specs.Moments.{Gives, HasLength, Makes, Syncs};
+ghost use Rattle.cr_outside_disk.specs.Moments.{Gives, HasLength, Makes, Opens, Syncs};
 
 use cr_outside::Outside;
 use std::alloc::Global;
@@ -28,20 +28,18 @@ pub trait Disk: Outside {
     /// The file's length in bytes, as `start`, `write` and `cut` set it.
     ghost size: { Self → ℕ };
 
-    /// How often a call on the disk has failed. It never falls.
-    ghost faults: { Self → ℕ };
-
     /// Whether the call on the disk made last answered `Failed`.
     ghost has_failed: { Self → Bool };
 
-    /// Opens the file of this name, which need not be there before, and answers its length. That is no change of the file.
+    /// Opens the file of this name, which need not be there before, and answers its length. That is told, and is no change of the file. A refused
+    /// opening may have been made all the same.
     fn start(&mut self, alloc: Global, name: &str) -> Result<u64, DiskFault>
-        ensures same { Self.story self.new ≡ Self.story self.old }
+        ensures opens { Opens (Self.story self.old) (Self.story self.new) name.now result }
         ensures ready { OnOk result (is_ready self.new ≡ true) }
         ensures size { IfOk result (λ len. size self.new ≡ len) }
         ensures fine { OnOk result (has_failed self.new ≡ false) }
-        ensures later { faults self.old ≤ faults self.new }
-        ensures failed { IsErrOf result DiskFault.Failed → Rose (faults self.old) (faults self.new) × (has_failed self.new ≡ true) };
+        ensures later { Self.faults self.old ≤ Self.faults self.new }
+        ensures failed { IsErrOf result DiskFault.Failed → Rose (Self.faults self.old) (Self.faults self.new) × (has_failed self.new ≡ true) };
 
     /// Fills `into` with the bytes from `at` on.
     fn read(&mut self, alloc: Global, at: u64, into: &mut [u8]) -> Result<(), DiskFault>
@@ -53,8 +51,8 @@ pub trait Disk: Outside {
         ensures ready { is_ready self.new ≡ true }
         ensures size { size self.new ≡ size self.old }
         ensures fine { OnOk result (has_failed self.new ≡ false) }
-        ensures later { faults self.old ≤ faults self.new }
-        ensures failed { IsErrOf result DiskFault.Failed → Rose (faults self.old) (faults self.new) × (has_failed self.new ≡ true) };
+        ensures later { Self.faults self.old ≤ Self.faults self.new }
+        ensures failed { IsErrOf result DiskFault.Failed → Rose (Self.faults self.old) (Self.faults self.new) × (has_failed self.new ≡ true) };
 
     /// Writes the bytes from `at` on, over what stands there and past the end. A refused write may have been made all the same.
     fn write(&mut self, alloc: Global, at: u64, bytes: &[u8]) -> Result<(), DiskFault>
@@ -65,8 +63,8 @@ pub trait Disk: Outside {
         ensures ready { OnOk result (is_ready self.new ≡ true) }
         ensures size { OnOk result (size self.new ≡ max (size self.old) (at + length bytes.now)) }
         ensures fine { OnOk result (has_failed self.new ≡ false) }
-        ensures later { faults self.old ≤ faults self.new }
-        ensures failed { IsErrOf result DiskFault.Failed → Rose (faults self.old) (faults self.new) × (has_failed self.new ≡ true) };
+        ensures later { Self.faults self.old ≤ Self.faults self.new }
+        ensures failed { IsErrOf result DiskFault.Failed → Rose (Self.faults self.old) (Self.faults self.new) × (has_failed self.new ≡ true) };
 
     /// Cuts the file to `len` bytes. A refused cut may have been made all the same.
     fn cut(&mut self, alloc: Global, len: u64) -> Result<(), DiskFault>
@@ -76,8 +74,8 @@ pub trait Disk: Outside {
         ensures ready { OnOk result (is_ready self.new ≡ true) }
         ensures size { OnOk result (size self.new ≡ len) }
         ensures fine { OnOk result (has_failed self.new ≡ false) }
-        ensures later { faults self.old ≤ faults self.new }
-        ensures failed { IsErrOf result DiskFault.Failed → Rose (faults self.old) (faults self.new) × (has_failed self.new ≡ true) };
+        ensures later { Self.faults self.old ≤ Self.faults self.new }
+        ensures failed { IsErrOf result DiskFault.Failed → Rose (Self.faults self.old) (Self.faults self.new) × (has_failed self.new ≡ true) };
 
     /// Answers `Ok` once all changes so far are on the disk. A refused sync settles nothing.
     fn sync(&mut self, alloc: Global) -> Result<(), DiskFault>
@@ -86,8 +84,8 @@ pub trait Disk: Outside {
         ensures ready { OnOk result (is_ready self.new ≡ true) }
         ensures size { size self.new ≡ size self.old }
         ensures fine { OnOk result (has_failed self.new ≡ false) }
-        ensures later { faults self.old ≤ faults self.new }
-        ensures failed { IsErrOf result DiskFault.Failed → Rose (faults self.old) (faults self.new) × (has_failed self.new ≡ true) };
+        ensures later { Self.faults self.old ≤ Self.faults self.new }
+        ensures failed { IsErrOf result DiskFault.Failed → Rose (Self.faults self.old) (Self.faults self.new) × (has_failed self.new ≡ true) };
 
     /// A told file of a ready disk has this length.
     ghost has_length: { (disk : Self) → is_ready disk ≡ true → HasLength (Self.Outside.story disk) (size disk) };

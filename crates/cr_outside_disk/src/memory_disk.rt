@@ -1,5 +1,5 @@
 // A disk in memory, with files beside it.
-ghost use Rattle.std.specs.Prelude.{◌≡◌, ◌≤◌, ◌<◌, ◌+◌, ◌^◌, ◌↔◌, [], Contains, IfOk, IsErr, IsErrOf, OnOk, Some, true, false, length, map, max, refl};
+ghost use Rattle.std.specs.Prelude.{◌≡◌, ◌≤◌, ◌<◌, ◌+◌, ◌^◌, ◌↔◌, [], Contains, IfOk, IsErr, IsErrOf, OnErr, OnOk, Some, true, false, length, map, max, refl};
 ghost use Rattle.std.specs.Bool.{OnTrue};
 ghost use Rattle.cr_outside.specs.Faults.{Rose, raised};
 ghost use Rattle.cr_outside.specs.MemFiles.{change_of, event_of};
@@ -7,7 +7,7 @@ ghost use Rattle.cr_outside.specs.Story.{changes_of, gone_on};
 ghost use Rattle.cr_outside.specs.Story.Change.{Written, Cut, Synced};
 ghost use Rattle.cr_outside.specs.Story.Event.{Changed};
 ghost use Rattle.cr_outside_disk.specs.Images.{filled, put, seen_after};
-ghost use Rattle.cr_outside_disk.specs.Moments.{Gives, Makes, Syncs, seen};
+ghost use Rattle.cr_outside_disk.specs.Moments.{Gives, Makes, Opens, Syncs, seen};
 
 use crate::{Disk, DiskFault};
 use cr_outside::{Change, Event, FaultPlan, FileFault, Files, MemFiles, Outside, ReadAnswer};
@@ -26,7 +26,7 @@ pub struct MemDisk {
 
 impl MemDisk {
     ghost use Rattle.cr_outside.specs.MemFiles.{story_of, story_of_lists};
-    ghost use Rattle.cr_outside_disk.specs.MemDisk.{told_by, failing_of, calls_of, filled_image};
+    ghost use Rattle.cr_outside_disk.specs.MemDisk.{told_by, failing_of, calls_of, faults_of, filled_image};
     ghost use Rattle.cr_outside_disk.specs.Moments.{IsImage};
 
     /// A journal with these bytes, all of them on the disk, and no other file. `failing` has the numbers of the calls on the
@@ -78,8 +78,8 @@ impl MemDisk {
         ensures failed { self.new.has_failed ≡ result }
         ensures listed { (result ≡ true) ↔ Contains (failing_of self.old) (calls_of self.new) }
         ensures counted { calls_of self.new ≡ raised (calls_of self.old) }
-        ensures rose { OnTrue result (self.new.plan.faults ≡ raised self.old.plan.faults) }
-        ensures later { self.old.plan.faults ≤ self.new.plan.faults }
+        ensures rose { OnTrue result (Rose (faults_of self.old) (faults_of self.new)) }
+        ensures later { faults_of self.old ≤ faults_of self.new }
     {
         self.has_failed = self.plan.next_fails();
         self.has_failed
@@ -93,8 +93,8 @@ impl MemDisk {
         ensures unmade { IsErrOf result DiskFault.NoMemory → told_by self.new ≡ told_by self.old }
         ensures ready { OnOk result (self.new.is_ready ≡ true) }
         ensures fine { OnOk result (self.new.has_failed ≡ false) }
-        ensures later { self.old.plan.faults ≤ self.new.plan.faults }
-        ensures failed { IsErrOf result DiskFault.Failed → Rose self.old.plan.faults self.new.plan.faults × (self.new.has_failed ≡ true) }
+        ensures later { faults_of self.old ≤ faults_of self.new }
+        ensures failed { IsErrOf result DiskFault.Failed → Rose (faults_of self.old) (faults_of self.new) × (self.new.has_failed ≡ true) }
         ensures listed { IsErrOf result DiskFault.Failed → Contains (failing_of self.old) (calls_of self.new) }
         ensures fails { Contains (failing_of self.old) (calls_of self.new) → IsErr result }
         ensures counted { calls_of self.new ≡ raised (calls_of self.old) }
@@ -128,7 +128,10 @@ fn read_after(alloc: Global, first: &[u8], events: &[Event]) -> Result<Vec<u8>, 
             Ok(file)
         }
         [
-            Event::Changed(Change::Synced) | Event::Read(_, _, _) | Event::Wrote(_, _, _, _),
+            Event::Changed(Change::Synced)
+            | Event::Read(_, _, _)
+            | Event::Wrote(_, _, _, _)
+            | Event::Opened(_),
             older @ ..,
         ] => read_after(alloc, first, older),
     }
@@ -156,9 +159,10 @@ fn fill_after(
             Ok(file)
         }
         [Event::Changed(Change::Synced), older @ ..] => read_after(alloc, first, older),
-        [Event::Read(_, _, _) | Event::Wrote(_, _, _, _), older @ ..] => fill_after(
-            alloc, first, older, fill,
-        ),
+        [
+            Event::Read(_, _, _) | Event::Wrote(_, _, _, _) | Event::Opened(_),
+            older @ ..,
+        ] => fill_after(alloc, first, older, fill),
     }
 }
 
@@ -176,16 +180,14 @@ fn overwritten(alloc: Global, file: &[u8], at: u64, bytes: &[u8]) -> Result<Vec<
 }
 
 impl Outside for MemDisk {
-    ghost use Rattle.cr_outside_disk.specs.MemDisk.{told_by};
+    ghost use Rattle.cr_outside_disk.specs.MemDisk.{faults_of, told_by};
 
     ghost story = { λ d. Some (told_by d) };
+
+    ghost faults = { λ d. faults_of d };
 }
 
 impl Files for MemDisk {
-    ghost use Rattle.cr_outside_disk.specs.MemDisk.{file_faults_of};
-
-    ghost faults = { λ d. file_faults_of d };
-
     fn read(&mut self, alloc: Global, name: &str, most: usize) -> ReadAnswer {
         self.files.read(alloc, name, most)
     }
@@ -196,25 +198,24 @@ impl Files for MemDisk {
 }
 
 impl Disk for MemDisk {
-    ghost use Rattle.cr_outside_disk.specs.MemDisk.{told_by, failing_of, calls_of};
+    ghost use Rattle.cr_outside_disk.specs.MemDisk.{told_by, failing_of, calls_of, faults_of};
 
     ghost is_ready = { λ d. d.is_ready };
 
     ghost size = { λ d. length (seen (told_by d)) };
 
-    ghost faults = { λ d. d.plan.faults };
-
     ghost has_failed = { λ d. d.has_failed };
 
     ghost has_length = { λ _ _. refl };
 
-    fn start(&mut self, alloc: Global, _name: &str) -> Result<u64, DiskFault>
-        ensures same { told_by self.new ≡ told_by self.old }
+    fn start(&mut self, alloc: Global, name: &str) -> Result<u64, DiskFault>
+        ensures opens { Opens (Some (told_by self.old)) (Some (told_by self.new)) name.now result }
+        ensures unopened { OnErr result (told_by self.new ≡ told_by self.old) }
         ensures ready { OnOk result (self.new.is_ready ≡ true) }
         ensures size { IfOk result (λ len. length (seen (told_by self.new)) ≡ len) }
         ensures fine { OnOk result (self.new.has_failed ≡ false) }
-        ensures later { self.old.plan.faults ≤ self.new.plan.faults }
-        ensures failed { IsErrOf result DiskFault.Failed → Rose self.old.plan.faults self.new.plan.faults × (self.new.has_failed ≡ true) }
+        ensures later { faults_of self.old ≤ faults_of self.new }
+        ensures failed { IsErrOf result DiskFault.Failed → Rose (faults_of self.old) (faults_of self.new) × (self.new.has_failed ≡ true) }
         ensures listed { IsErrOf result DiskFault.Failed ↔ Contains (failing_of self.old) (calls_of self.new) }
         ensures counted { calls_of self.new ≡ raised (calls_of self.old) }
     {
@@ -225,6 +226,9 @@ impl Disk for MemDisk {
         let Ok(bytes) = self.whole(alloc) else {
             return Err(DiskFault::NoMemory);
         };
+        if self.files.open_journal(alloc, name).is_err() {
+            return Err(DiskFault::NoMemory);
+        }
         self.is_ready = true;
         Ok(bytes.len() as u64)
     }
@@ -238,8 +242,8 @@ impl Disk for MemDisk {
         ensures ready { self.new.is_ready ≡ true }
         ensures size { length (seen (told_by self.new)) ≡ length (seen (told_by self.old)) }
         ensures fine { OnOk result (self.new.has_failed ≡ false) }
-        ensures later { self.old.plan.faults ≤ self.new.plan.faults }
-        ensures failed { IsErrOf result DiskFault.Failed → Rose self.old.plan.faults self.new.plan.faults × (self.new.has_failed ≡ true) }
+        ensures later { faults_of self.old ≤ faults_of self.new }
+        ensures failed { IsErrOf result DiskFault.Failed → Rose (faults_of self.old) (faults_of self.new) × (self.new.has_failed ≡ true) }
         ensures listed { IsErrOf result DiskFault.Failed ↔ Contains (failing_of self.old) (calls_of self.new) }
         ensures counted { calls_of self.new ≡ raised (calls_of self.old) }
     {
@@ -262,8 +266,8 @@ impl Disk for MemDisk {
         ensures ready { OnOk result (self.new.is_ready ≡ true) }
         ensures size { OnOk result (length (seen (told_by self.new)) ≡ max (length (seen (told_by self.old))) (at + length bytes.now)) }
         ensures fine { OnOk result (self.new.has_failed ≡ false) }
-        ensures later { self.old.plan.faults ≤ self.new.plan.faults }
-        ensures failed { IsErrOf result DiskFault.Failed → Rose self.old.plan.faults self.new.plan.faults × (self.new.has_failed ≡ true) }
+        ensures later { faults_of self.old ≤ faults_of self.new }
+        ensures failed { IsErrOf result DiskFault.Failed → Rose (faults_of self.old) (faults_of self.new) × (self.new.has_failed ≡ true) }
         ensures late { IsErrOf result DiskFault.Failed → told_by self.new ≡ gone_on (Changed (Written at bytes.now)) (told_by self.old) }
         ensures unmade { IsErrOf result DiskFault.NoMemory → told_by self.new ≡ told_by self.old }
         ensures listed { IsErrOf result DiskFault.Failed → Contains (failing_of self.old) (calls_of self.new) }
@@ -287,8 +291,8 @@ impl Disk for MemDisk {
         ensures ready { OnOk result (self.new.is_ready ≡ true) }
         ensures size { OnOk result (length (seen (told_by self.new)) ≡ len) }
         ensures fine { OnOk result (self.new.has_failed ≡ false) }
-        ensures later { self.old.plan.faults ≤ self.new.plan.faults }
-        ensures failed { IsErrOf result DiskFault.Failed → Rose self.old.plan.faults self.new.plan.faults × (self.new.has_failed ≡ true) }
+        ensures later { faults_of self.old ≤ faults_of self.new }
+        ensures failed { IsErrOf result DiskFault.Failed → Rose (faults_of self.old) (faults_of self.new) × (self.new.has_failed ≡ true) }
         ensures late { IsErrOf result DiskFault.Failed → told_by self.new ≡ gone_on (Changed (Cut len)) (told_by self.old) }
         ensures unmade { IsErrOf result DiskFault.NoMemory → told_by self.new ≡ told_by self.old }
         ensures listed { IsErrOf result DiskFault.Failed → Contains (failing_of self.old) (calls_of self.new) }
@@ -304,8 +308,8 @@ impl Disk for MemDisk {
         ensures ready { OnOk result (self.new.is_ready ≡ true) }
         ensures size { length (seen (told_by self.new)) ≡ length (seen (told_by self.old)) }
         ensures fine { OnOk result (self.new.has_failed ≡ false) }
-        ensures later { self.old.plan.faults ≤ self.new.plan.faults }
-        ensures failed { IsErrOf result DiskFault.Failed → Rose self.old.plan.faults self.new.plan.faults × (self.new.has_failed ≡ true) }
+        ensures later { faults_of self.old ≤ faults_of self.new }
+        ensures failed { IsErrOf result DiskFault.Failed → Rose (faults_of self.old) (faults_of self.new) × (self.new.has_failed ≡ true) }
         ensures listed { IsErrOf result DiskFault.Failed ↔ Contains (failing_of self.old) (calls_of self.new) }
         ensures counted { calls_of self.new ≡ raised (calls_of self.old) }
     {

@@ -21,21 +21,19 @@ pub struct StdDisk<'a, R> {
     files: StdFiles<'a, R>,
     journal: Option<File>,
     size: u64,
-    faults: u64,
     has_failed: bool,
 }
 
 impl<'a, R> StdDisk<'a, R> {
     /// No journal is open, and no call has failed yet.
     pub fn new(rt: &'a R) -> StdDisk<'a, R>
-        ensures none { (result.faults ≡ 0) × (result.has_failed ≡ false) × (is_some result.journal ≡ false) }
+        ensures none { (result.files.faults ≡ 0) × (result.has_failed ≡ false) × (is_some result.journal ≡ false) }
     {
         StdDisk {
             rt,
             files: StdFiles::new(rt),
             journal: None,
             size: 0,
-            faults: 0,
             has_failed: false,
         }
     }
@@ -44,11 +42,11 @@ impl<'a, R> StdDisk<'a, R> {
     fn refuse(&mut self, error: io::Error) -> Result<(), DiskFault>
         ensures refused { IsErr result }
         ensures same { self.new.size ≡ self.old.size }
-        ensures later { self.old.faults ≤ self.new.faults }
-        ensures failed { IsErrOf result DiskFault.Failed → Rose self.old.faults self.new.faults × (self.new.has_failed ≡ true) }
+        ensures later { self.old.files.faults ≤ self.new.files.faults }
+        ensures failed { IsErrOf result DiskFault.Failed → Rose self.old.files.faults self.new.files.faults × (self.new.has_failed ≡ true) }
     {
         self.journal = None;
-        Err(fault_of(error, &mut self.faults, &mut self.has_failed))
+        Err(fault_of(error, &mut self.files.faults, &mut self.has_failed))
     }
 }
 
@@ -109,11 +107,11 @@ fn fault_of(error: io::Error, faults: &mut u64, has_failed: &mut bool) -> DiskFa
 
 impl<R> Outside for StdDisk<'_, R> {
     ghost story = { λ _. None };
+
+    ghost faults = { λ d. d.files.faults };
 }
 
 impl<R: SystemFiles<File = File>> Files for StdDisk<'_, R> {
-    ghost faults = { λ d. d.files.faults };
-
     fn read(&mut self, alloc: Global, name: &str, most: usize) -> ReadAnswer {
         self.files.read(alloc, name, most)
     }
@@ -132,8 +130,6 @@ impl<R: SystemFiles<File = File>> Disk for StdDisk<'_, R> {
 
     ghost size = { λ d. d.size };
 
-    ghost faults = { λ d. d.faults };
-
     ghost has_failed = { λ d. d.has_failed };
 
     ghost has_length = { λ _ _. tt };
@@ -147,7 +143,7 @@ impl<R: SystemFiles<File = File>> Disk for StdDisk<'_, R> {
                 self.size = len;
                 Ok(len)
             }
-            Err(error) => Err(fault_of(error, &mut self.faults, &mut self.has_failed)),
+            Err(error) => Err(fault_of(error, &mut self.files.faults, &mut self.has_failed)),
         }
     }
 
@@ -158,7 +154,7 @@ impl<R: SystemFiles<File = File>> Disk for StdDisk<'_, R> {
         };
         match file.read_exact_at(into, at) {
             Ok(()) => Ok(()),
-            Err(error) => Err(fault_of(error, &mut self.faults, &mut self.has_failed)),
+            Err(error) => Err(fault_of(error, &mut self.files.faults, &mut self.has_failed)),
         }
     }
 

@@ -56,11 +56,11 @@ fn read_most<R: SystemFiles>(
 
 impl<R> Outside for StdFiles<'_, R> {
     ghost story = { λ _. None };
+
+    ghost faults = { λ s. s.faults };
 }
 
 impl<R: SystemFiles> Files for StdFiles<'_, R> {
-    ghost faults = { λ s. s.faults };
-
     fn read(&mut self, alloc: Global, name: &str, most: usize) -> ReadAnswer {
         match read_most(self.rt, alloc, name, most) {
             Ok(bytes) => ReadAnswer::Bytes(bytes),

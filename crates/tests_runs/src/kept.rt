@@ -307,8 +307,8 @@ fn push_digits(bytes: &mut Vec<u8>, digits: &str) -> Result<(), AllocError> {
     Ok(())
 }
 
-// The bytes of a journal, told part by part.
-fn journal_of(alloc: Global, told: &str) -> Result<Vec<u8>, AllocError> {
+/// The bytes of a journal, told part by part.
+pub(crate) fn journal_of(alloc: Global, told: &str) -> Result<Vec<u8>, AllocError> {
     let mut bytes = Vec::new(alloc);
     for part in told.split_whitespace() {
         let digits = match part {

@@ -27,6 +27,8 @@ mod rulings;
 #[cfg(test)]
 mod runs;
 #[cfg(test)]
+mod shortened;
+#[cfg(test)]
 mod system;
 #[cfg(test)]
 mod tables;

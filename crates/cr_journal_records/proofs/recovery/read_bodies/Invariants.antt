@@ -8,7 +8,7 @@ invariant-loop-at g l = record {
   told : g.D.Outside.story l.disk ≡ g.D.Outside.story l.fn.disk;
   ready : g.D.Disk.is_ready l.disk ≡ true;
   size : g.D.Disk.size l.disk ≡ g.D.Disk.size l.fn.disk;
-  later : g.D.Disk.faults l.fn.disk ≤ g.D.Disk.faults l.disk;
+  later : g.D.Outside.faults l.fn.disk ≤ g.D.Outside.faults l.disk;
   within : l.at ≤ l.len;
   counts : l.at ≡ 32 * length l.bodies.items;
   behind : l.bodies.items ≢ [] → l.at < l.len;

@@ -1,8 +1,11 @@
-use Rattle.cr_journal_stops.proofs.Safe.{copy_phase, file_phase, journal_phase, other_phase, phases, read_phase}
+use Rattle.cr_journal_stops.proofs.Safe.{copy_phase, file_phase, journal_phase, open_phase, other_phase, phases, read_phase}
 use Rattle.cr_journal_stops.proofs.laws.calls_keep_what_can_be_gone_on_with.Goals as goal
 
 pub returns-clause-journal : goal.returns-clause-journal
 returns-clause-journal c = journal_phase
+
+pub returns-clause-openings : goal.returns-clause-openings
+returns-clause-openings c = open_phase
 
 pub returns-clause-reads : goal.returns-clause-reads
 returns-clause-reads c = read_phase

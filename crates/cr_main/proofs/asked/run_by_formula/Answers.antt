@@ -22,8 +22,8 @@ returns-clause-runs g c =
     let says = says_of g.J.Judge c.args.bench.now in
     let form = form_of c.args.formula.now in
     let it = c.run_in_modes.ensures.runs in
-    let old = outside g.W.Outside g.W.Files c.args.world.now g.O.Sink c.args.out.now in
-    let new = outside g.W.Outside g.W.Files c.run_in_modes.new.world g.O.Sink c.run_in_modes.new.out in
+    let old = outside g.W.Outside c.args.world.now g.O.Sink c.args.out.now in
+    let new = outside g.W.Outside c.run_in_modes.new.world g.O.Sink c.run_in_modes.new.out in
     let before = judging g.J.Judge c.args.bench.now in
     let after = judging g.J.Judge c.run_in_modes.new.bench in
     reduces (by_form form) it.0 (c.requires.formula, c.requires.spelled) it.1 (λ quiet. ap (λ (js : List g.row.J.Denot). judging_of g.J.Judge js) (c.run_in_modes.ensures.silent refl))

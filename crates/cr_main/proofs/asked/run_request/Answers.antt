@@ -16,16 +16,16 @@ run_asked-requires-clause-suits g c = λ sends shares. (subst (λ (r : Request).
 
 pub returns-in-Reduction-clause-does : goal.returns-in-Reduction-clause-does
 returns-in-Reduction-clause-does g c =
-    let old = outside g.W.Outside g.W.Files c.args.world.now g.O.Sink c.args.out.now in
-    let new = outside g.W.Outside g.W.Files c.run_asked.new.world g.O.Sink c.run_asked.new.out in
+    let old = outside g.W.Outside c.args.world.now g.O.Sink c.args.out.now in
+    let new = outside g.W.Outside c.run_asked.new.world g.O.Sink c.run_asked.new.out in
     subst (λ (r : Request). Does r (says_of g.J.Judge c.args.bench.now) old new (judging g.J.Judge c.args.bench.now) (judging g.J.Judge c.run_asked.new.bench) (g.W.Disk.has_failed c.run_asked.new.world) c.run_asked.result)
     (sym c.in-Reduction.is) c.run_asked.ensures.runs
 
 pub returns-in-Replay-clause-does : goal.returns-in-Replay-clause-does
 returns-in-Replay-clause-does g c =
     let asked = c.in-Replay.asked in
-    let old = outside g.W.Outside g.W.Files c.args.world.now g.O.Sink c.args.out.now in
-    let new = outside g.W.Outside g.W.Files c.replay_programs.new.files g.O.Sink c.replay_programs.new.out in
+    let old = outside g.W.Outside c.args.world.now g.O.Sink c.args.out.now in
+    let new = outside g.W.Outside c.replay_programs.new.files g.O.Sink c.replay_programs.new.out in
     let before = judging g.J.Judge c.args.bench.now in
     subst (λ (r : Request). Does r (says_of g.J.Judge c.args.bench.now) old new before before (g.W.Disk.has_failed c.replay_programs.new.files) c.replay_programs.result) (sym c.in-Replay.is) (
       refl,

@@ -10,7 +10,7 @@ pub run_lawful-requires-clause-binds : goal.run_lawful-requires-clause-binds
 run_lawful-requires-clause-binds g c = λ sends shares. c.requires.binds c.in-Ok.bytes.items c.in-Ok.ensures.opened.lawful
 
 pub returns-in-Ok-clause-runs : goal.returns-in-Ok-clause-runs
-returns-in-Ok-clause-runs g c = on_bytes c.in-Ok.bytes.items (outside g.F.Outside g.F.Files c.open_source.new.files g.O.Sink c.open_source.new.out) c.in-Ok.ensures.opened c.run_lawful.ensures.runs
+returns-in-Ok-clause-runs g c = on_bytes c.in-Ok.bytes.items (outside g.F.Outside c.open_source.new.files g.O.Sink c.open_source.new.out) c.in-Ok.ensures.opened c.run_lawful.ensures.runs
 
 pub returns-in-Err-clause-runs : goal.returns-in-Err-clause-runs
 returns-in-Err-clause-runs g c = not_opened c.in-Err.ensures.unopened refl

@@ -1,4 +1,5 @@
-use Rattle.std.proofs.Common.{◌≡◌, ◌<◌, ◌≤◌, drop, length, subst, sym, ◌∙◌}
+use Rattle.std.proofs.Common.{◌≡◌, ◌<◌, ◌≤◌, ◌^◌, drop, length, subst, sym, ◌∙◌}
+use Rattle.cr_journal.specs.Laws.{most_turns}
 use Rattle.cr_reduce.specs.Bench.{judging, says_of}
 use Rattle.pass_list.specs.Offers.{Offers}
 use Rattle.cr_main_kept.specs.Kept.{RunsJournal, RunsResume}
@@ -37,8 +38,8 @@ returns-in-Plain-clause-runs g c =
     let task = c.args.task.now in
     let says = says_of g.J.Judge c.args.bench.now in
     let law : Ruled = record { Lawful = g.L.Law.lawful task.law.now; Against = g.L.Law.reasons task.law.now } in
-    let old = outside g.W.Outside g.W.Files c.args.world.now g.O.Sink c.args.out.now in
-    let new = outside g.W.Outside g.W.Files c.run_by_epochs.new.files g.O.Sink c.run_by_epochs.new.out in
+    let old = outside g.W.Outside c.args.world.now g.O.Sink c.args.out.now in
+    let new = outside g.W.Outside c.run_by_epochs.new.files g.O.Sink c.run_by_epochs.new.out in
     let before = judging g.J.Judge c.args.bench.now in
     let after = judging g.J.Judge c.run_by_epochs.new.bench in
     let has_failed = g.W.Disk.has_failed c.run_by_epochs.new.files in
@@ -77,8 +78,8 @@ returns-in-Standing-clause-runs g c =
     let task = c.args.task.now in
     let says = says_of g.J.Judge c.args.bench.now in
     let law : Ruled = record { Lawful = g.L.Law.lawful task.law.now; Against = g.L.Law.reasons task.law.now } in
-    let old = outside g.W.Outside g.W.Files c.args.world.now g.O.Sink c.args.out.now in
-    let new = outside g.W.Outside g.W.Files c.run_by_standing.new.files g.O.Sink c.run_by_standing.new.out in
+    let old = outside g.W.Outside c.args.world.now g.O.Sink c.args.out.now in
+    let new = outside g.W.Outside c.run_by_standing.new.files g.O.Sink c.run_by_standing.new.out in
     let before = judging g.J.Judge c.args.bench.now in
     let after = judging g.J.Judge c.run_by_standing.new.bench in
     let has_failed = g.W.Disk.has_failed c.run_by_standing.new.files in
@@ -117,8 +118,8 @@ returns-in-Journal-clause-runs g c =
     let task = c.args.task.now in
     let says = says_of g.J.Judge c.args.bench.now in
     let law : Ruled = record { Lawful = g.L.Law.lawful task.law.now; Against = g.L.Law.reasons task.law.now } in
-    let old = outside g.W.Outside g.W.Files c.args.world.now g.O.Sink c.args.out.now in
-    let new = outside g.W.Outside g.W.Files c.run_journal.new.world g.O.Sink c.run_journal.new.out in
+    let old = outside g.W.Outside c.args.world.now g.O.Sink c.args.out.now in
+    let new = outside g.W.Outside c.run_journal.new.world g.O.Sink c.run_journal.new.out in
     let before = judging g.J.Judge c.args.bench.now in
     let after = judging g.J.Judge c.run_journal.new.bench in
     let has_failed = g.W.Disk.has_failed c.run_journal.new.world in
@@ -148,6 +149,9 @@ run_resume-requires-clause-workers g c = λ sends shares. subst (λ n. (0 < n) �
 pub run_resume-requires-clause-window : goal.run_resume-requires-clause-window
 run_resume-requires-clause-window g c = λ sends shares. subst (λ n. (0 < n) × (n ≤ 4096)) (sym c.requires.task.window) c.requires.runnable.window
 
+pub run_resume-requires-clause-limit : goal.run_resume-requires-clause-limit
+run_resume-requires-clause-limit g c = λ sends shares. subst (λ limit. most_turns limit < 2 ^ 63) (sym c.requires.task.limit) c.requires.runnable.limit
+
 pub run_resume-requires-clause-binds : goal.run_resume-requires-clause-binds
 run_resume-requires-clause-binds g c = λ sends shares. c.requires.binds
 
@@ -160,8 +164,8 @@ returns-in-Resume-clause-runs g c =
     let task = c.args.task.now in
     let says = says_of g.J.Judge c.args.bench.now in
     let law : Ruled = record { Lawful = g.L.Law.lawful task.law.now; Against = g.L.Law.reasons task.law.now } in
-    let old = outside g.W.Outside g.W.Files c.args.world.now g.O.Sink c.args.out.now in
-    let new = outside g.W.Outside g.W.Files c.run_resume.new.world g.O.Sink c.run_resume.new.out in
+    let old = outside g.W.Outside c.args.world.now g.O.Sink c.args.out.now in
+    let new = outside g.W.Outside c.run_resume.new.world g.O.Sink c.run_resume.new.out in
     let before = judging g.J.Judge c.args.bench.now in
     let after = judging g.J.Judge c.run_resume.new.bench in
     let has_failed = g.W.Disk.has_failed c.run_resume.new.world in

@@ -32,8 +32,8 @@ returns-clause-runs g c =
     let settings = c.args.settings.now in
     let task = c.task_by-task.result in
     let says = says_of g.J.Judge c.args.bench.now in
-    let old = outside g.F.Outside g.F.Files c.args.files.now g.O.Sink c.args.out.now in
-    let new = outside g.F.Outside g.F.Files c.run_by_epochs.new.files g.O.Sink c.run_by_epochs.new.out in
+    let old = outside g.F.Outside c.args.files.now g.O.Sink c.args.out.now in
+    let new = outside g.F.Outside c.run_by_epochs.new.files g.O.Sink c.run_by_epochs.new.out in
     let before = judging g.J.Judge c.args.bench.now in
     let after = judging g.J.Judge c.run_by_epochs.new.bench in (
       task.own.now,

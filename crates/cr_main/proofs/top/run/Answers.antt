@@ -19,42 +19,42 @@ returns-in-Ok-clause-runs g c = on_task c.in-Ok.settings c.run_given.ensures.run
 
 pub returns-in-Ok-clause-headline : goal.returns-in-Ok-clause-headline
 returns-in-Ok-clause-headline g c = (promises (texts_of c.args.list.now) (length c.args.bench.now.judges) (says_of g.J.Judge c.args.bench.now)
-    (outside g.F.Outside g.F.Files c.args.files.now g.O.Sink c.args.out.now) (outside g.F.Outside g.F.Files c.run_given.new.files g.O.Sink c.run_given.new.out)
+    (outside g.F.Outside c.args.files.now g.O.Sink c.args.out.now) (outside g.F.Outside c.run_given.new.files g.O.Sink c.run_given.new.out)
     (judging g.J.Judge c.args.bench.now) (judging g.J.Judge c.run_given.new.bench) c.run_given.result (returns-in-Ok-clause-runs g c)).headline
 
 pub returns-in-Ok-clause-finished : goal.returns-in-Ok-clause-finished
 returns-in-Ok-clause-finished g c = (promises (texts_of c.args.list.now) (length c.args.bench.now.judges) (says_of g.J.Judge c.args.bench.now)
-    (outside g.F.Outside g.F.Files c.args.files.now g.O.Sink c.args.out.now) (outside g.F.Outside g.F.Files c.run_given.new.files g.O.Sink c.run_given.new.out)
+    (outside g.F.Outside c.args.files.now g.O.Sink c.args.out.now) (outside g.F.Outside c.run_given.new.files g.O.Sink c.run_given.new.out)
     (judging g.J.Judge c.args.bench.now) (judging g.J.Judge c.run_given.new.bench) c.run_given.result (returns-in-Ok-clause-runs g c)).finished
 
 pub returns-in-Ok-clause-files_kept : goal.returns-in-Ok-clause-files_kept
 returns-in-Ok-clause-files_kept g c = (promises (texts_of c.args.list.now) (length c.args.bench.now.judges) (says_of g.J.Judge c.args.bench.now)
-    (outside g.F.Outside g.F.Files c.args.files.now g.O.Sink c.args.out.now) (outside g.F.Outside g.F.Files c.run_given.new.files g.O.Sink c.run_given.new.out)
+    (outside g.F.Outside c.args.files.now g.O.Sink c.args.out.now) (outside g.F.Outside c.run_given.new.files g.O.Sink c.run_given.new.out)
     (judging g.J.Judge c.args.bench.now) (judging g.J.Judge c.run_given.new.bench) c.run_given.result (returns-in-Ok-clause-runs g c)).files_kept
 
 pub returns-in-Ok-clause-fault_last : goal.returns-in-Ok-clause-fault_last
 returns-in-Ok-clause-fault_last g c = (promises (texts_of c.args.list.now) (length c.args.bench.now.judges) (says_of g.J.Judge c.args.bench.now)
-    (outside g.F.Outside g.F.Files c.args.files.now g.O.Sink c.args.out.now) (outside g.F.Outside g.F.Files c.run_given.new.files g.O.Sink c.run_given.new.out)
+    (outside g.F.Outside c.args.files.now g.O.Sink c.args.out.now) (outside g.F.Outside c.run_given.new.files g.O.Sink c.run_given.new.out)
     (judging g.J.Judge c.args.bench.now) (judging g.J.Judge c.run_given.new.bench) c.run_given.result (returns-in-Ok-clause-runs g c)).fault_last
 
 pub returns-in-Ok-clause-no_files : goal.returns-in-Ok-clause-no_files
 returns-in-Ok-clause-no_files g c = (promises (texts_of c.args.list.now) (length c.args.bench.now.judges) (says_of g.J.Judge c.args.bench.now)
-    (outside g.F.Outside g.F.Files c.args.files.now g.O.Sink c.args.out.now) (outside g.F.Outside g.F.Files c.run_given.new.files g.O.Sink c.run_given.new.out)
+    (outside g.F.Outside c.args.files.now g.O.Sink c.args.out.now) (outside g.F.Outside c.run_given.new.files g.O.Sink c.run_given.new.out)
     (judging g.J.Judge c.args.bench.now) (judging g.J.Judge c.run_given.new.bench) c.run_given.result (returns-in-Ok-clause-runs g c)).no_files
 
 pub returns-in-Ok-clause-journal_kept : goal.returns-in-Ok-clause-journal_kept
 returns-in-Ok-clause-journal_kept g c = (promises (texts_of c.args.list.now) (length c.args.bench.now.judges) (says_of g.J.Judge c.args.bench.now)
-    (outside g.F.Outside g.F.Files c.args.files.now g.O.Sink c.args.out.now) (outside g.F.Outside g.F.Files c.run_given.new.files g.O.Sink c.run_given.new.out)
+    (outside g.F.Outside c.args.files.now g.O.Sink c.args.out.now) (outside g.F.Outside c.run_given.new.files g.O.Sink c.run_given.new.out)
     (judging g.J.Judge c.args.bench.now) (judging g.J.Judge c.run_given.new.bench) c.run_given.result (returns-in-Ok-clause-runs g c)).journal_kept
 
 pub returns-in-Ok-clause-asks_only : goal.returns-in-Ok-clause-asks_only
 returns-in-Ok-clause-asks_only g c = (promises (texts_of c.args.list.now) (length c.args.bench.now.judges) (says_of g.J.Judge c.args.bench.now)
-    (outside g.F.Outside g.F.Files c.args.files.now g.O.Sink c.args.out.now) (outside g.F.Outside g.F.Files c.run_given.new.files g.O.Sink c.run_given.new.out)
+    (outside g.F.Outside c.args.files.now g.O.Sink c.args.out.now) (outside g.F.Outside c.run_given.new.files g.O.Sink c.run_given.new.out)
     (judging g.J.Judge c.args.bench.now) (judging g.J.Judge c.run_given.new.bench) c.run_given.result (returns-in-Ok-clause-runs g c)).asks_only
 
 pub returns-in-Ok-clause-completes : goal.returns-in-Ok-clause-completes
 returns-in-Ok-clause-completes g c = (promises (texts_of c.args.list.now) (length c.args.bench.now.judges) (says_of g.J.Judge c.args.bench.now)
-    (outside g.F.Outside g.F.Files c.args.files.now g.O.Sink c.args.out.now) (outside g.F.Outside g.F.Files c.run_given.new.files g.O.Sink c.run_given.new.out)
+    (outside g.F.Outside c.args.files.now g.O.Sink c.args.out.now) (outside g.F.Outside c.run_given.new.files g.O.Sink c.run_given.new.out)
     (judging g.J.Judge c.args.bench.now) (judging g.J.Judge c.run_given.new.bench) c.run_given.result (returns-in-Ok-clause-runs g c)).completes
 
 pub returns-in-Ok-clause-others : goal.returns-in-Ok-clause-others
@@ -73,42 +73,42 @@ returns-in-Err-Usage-clause-runs g c = no_settings (subst (HasNone (texts_of c.a
 
 pub returns-in-Err-Usage-clause-headline : goal.returns-in-Err-Usage-clause-headline
 returns-in-Err-Usage-clause-headline g c = (promises (texts_of c.args.list.now) (length c.args.bench.now.judges) (says_of g.J.Judge c.args.bench.now)
-    (outside g.F.Outside g.F.Files c.args.files.now g.O.Sink c.args.out.now) (outside g.F.Outside g.F.Files c.args.files.now g.O.Sink c.put_usage.new.out)
+    (outside g.F.Outside c.args.files.now g.O.Sink c.args.out.now) (outside g.F.Outside c.args.files.now g.O.Sink c.put_usage.new.out)
     (judging g.J.Judge c.args.bench.now) (judging g.J.Judge c.args.bench.now) c.put_usage.result (returns-in-Err-Usage-clause-runs g c)).headline
 
 pub returns-in-Err-Usage-clause-finished : goal.returns-in-Err-Usage-clause-finished
 returns-in-Err-Usage-clause-finished g c = (promises (texts_of c.args.list.now) (length c.args.bench.now.judges) (says_of g.J.Judge c.args.bench.now)
-    (outside g.F.Outside g.F.Files c.args.files.now g.O.Sink c.args.out.now) (outside g.F.Outside g.F.Files c.args.files.now g.O.Sink c.put_usage.new.out)
+    (outside g.F.Outside c.args.files.now g.O.Sink c.args.out.now) (outside g.F.Outside c.args.files.now g.O.Sink c.put_usage.new.out)
     (judging g.J.Judge c.args.bench.now) (judging g.J.Judge c.args.bench.now) c.put_usage.result (returns-in-Err-Usage-clause-runs g c)).finished
 
 pub returns-in-Err-Usage-clause-files_kept : goal.returns-in-Err-Usage-clause-files_kept
 returns-in-Err-Usage-clause-files_kept g c = (promises (texts_of c.args.list.now) (length c.args.bench.now.judges) (says_of g.J.Judge c.args.bench.now)
-    (outside g.F.Outside g.F.Files c.args.files.now g.O.Sink c.args.out.now) (outside g.F.Outside g.F.Files c.args.files.now g.O.Sink c.put_usage.new.out)
+    (outside g.F.Outside c.args.files.now g.O.Sink c.args.out.now) (outside g.F.Outside c.args.files.now g.O.Sink c.put_usage.new.out)
     (judging g.J.Judge c.args.bench.now) (judging g.J.Judge c.args.bench.now) c.put_usage.result (returns-in-Err-Usage-clause-runs g c)).files_kept
 
 pub returns-in-Err-Usage-clause-fault_last : goal.returns-in-Err-Usage-clause-fault_last
 returns-in-Err-Usage-clause-fault_last g c = (promises (texts_of c.args.list.now) (length c.args.bench.now.judges) (says_of g.J.Judge c.args.bench.now)
-    (outside g.F.Outside g.F.Files c.args.files.now g.O.Sink c.args.out.now) (outside g.F.Outside g.F.Files c.args.files.now g.O.Sink c.put_usage.new.out)
+    (outside g.F.Outside c.args.files.now g.O.Sink c.args.out.now) (outside g.F.Outside c.args.files.now g.O.Sink c.put_usage.new.out)
     (judging g.J.Judge c.args.bench.now) (judging g.J.Judge c.args.bench.now) c.put_usage.result (returns-in-Err-Usage-clause-runs g c)).fault_last
 
 pub returns-in-Err-Usage-clause-no_files : goal.returns-in-Err-Usage-clause-no_files
 returns-in-Err-Usage-clause-no_files g c = (promises (texts_of c.args.list.now) (length c.args.bench.now.judges) (says_of g.J.Judge c.args.bench.now)
-    (outside g.F.Outside g.F.Files c.args.files.now g.O.Sink c.args.out.now) (outside g.F.Outside g.F.Files c.args.files.now g.O.Sink c.put_usage.new.out)
+    (outside g.F.Outside c.args.files.now g.O.Sink c.args.out.now) (outside g.F.Outside c.args.files.now g.O.Sink c.put_usage.new.out)
     (judging g.J.Judge c.args.bench.now) (judging g.J.Judge c.args.bench.now) c.put_usage.result (returns-in-Err-Usage-clause-runs g c)).no_files
 
 pub returns-in-Err-Usage-clause-journal_kept : goal.returns-in-Err-Usage-clause-journal_kept
 returns-in-Err-Usage-clause-journal_kept g c = (promises (texts_of c.args.list.now) (length c.args.bench.now.judges) (says_of g.J.Judge c.args.bench.now)
-    (outside g.F.Outside g.F.Files c.args.files.now g.O.Sink c.args.out.now) (outside g.F.Outside g.F.Files c.args.files.now g.O.Sink c.put_usage.new.out)
+    (outside g.F.Outside c.args.files.now g.O.Sink c.args.out.now) (outside g.F.Outside c.args.files.now g.O.Sink c.put_usage.new.out)
     (judging g.J.Judge c.args.bench.now) (judging g.J.Judge c.args.bench.now) c.put_usage.result (returns-in-Err-Usage-clause-runs g c)).journal_kept
 
 pub returns-in-Err-Usage-clause-asks_only : goal.returns-in-Err-Usage-clause-asks_only
 returns-in-Err-Usage-clause-asks_only g c = (promises (texts_of c.args.list.now) (length c.args.bench.now.judges) (says_of g.J.Judge c.args.bench.now)
-    (outside g.F.Outside g.F.Files c.args.files.now g.O.Sink c.args.out.now) (outside g.F.Outside g.F.Files c.args.files.now g.O.Sink c.put_usage.new.out)
+    (outside g.F.Outside c.args.files.now g.O.Sink c.args.out.now) (outside g.F.Outside c.args.files.now g.O.Sink c.put_usage.new.out)
     (judging g.J.Judge c.args.bench.now) (judging g.J.Judge c.args.bench.now) c.put_usage.result (returns-in-Err-Usage-clause-runs g c)).asks_only
 
 pub returns-in-Err-Usage-clause-completes : goal.returns-in-Err-Usage-clause-completes
 returns-in-Err-Usage-clause-completes g c = (promises (texts_of c.args.list.now) (length c.args.bench.now.judges) (says_of g.J.Judge c.args.bench.now)
-    (outside g.F.Outside g.F.Files c.args.files.now g.O.Sink c.args.out.now) (outside g.F.Outside g.F.Files c.args.files.now g.O.Sink c.put_usage.new.out)
+    (outside g.F.Outside c.args.files.now g.O.Sink c.args.out.now) (outside g.F.Outside c.args.files.now g.O.Sink c.put_usage.new.out)
     (judging g.J.Judge c.args.bench.now) (judging g.J.Judge c.args.bench.now) c.put_usage.result (returns-in-Err-Usage-clause-runs g c)).completes
 
 pub returns-in-Err-NoMemory-clause-runs : goal.returns-in-Err-NoMemory-clause-runs
@@ -116,42 +116,42 @@ returns-in-Err-NoMemory-clause-runs g c = unsorted refl refl refl
 
 pub returns-in-Err-NoMemory-clause-headline : goal.returns-in-Err-NoMemory-clause-headline
 returns-in-Err-NoMemory-clause-headline g c = (promises (texts_of c.args.list.now) (length c.args.bench.now.judges) (says_of g.J.Judge c.args.bench.now)
-    (outside g.F.Outside g.F.Files c.args.files.now g.O.Sink c.args.out.now) (outside g.F.Outside g.F.Files c.args.files.now g.O.Sink c.args.out.now)
+    (outside g.F.Outside c.args.files.now g.O.Sink c.args.out.now) (outside g.F.Outside c.args.files.now g.O.Sink c.args.out.now)
     (judging g.J.Judge c.args.bench.now) (judging g.J.Judge c.args.bench.now) 11 (returns-in-Err-NoMemory-clause-runs g c)).headline
 
 pub returns-in-Err-NoMemory-clause-finished : goal.returns-in-Err-NoMemory-clause-finished
 returns-in-Err-NoMemory-clause-finished g c = (promises (texts_of c.args.list.now) (length c.args.bench.now.judges) (says_of g.J.Judge c.args.bench.now)
-    (outside g.F.Outside g.F.Files c.args.files.now g.O.Sink c.args.out.now) (outside g.F.Outside g.F.Files c.args.files.now g.O.Sink c.args.out.now)
+    (outside g.F.Outside c.args.files.now g.O.Sink c.args.out.now) (outside g.F.Outside c.args.files.now g.O.Sink c.args.out.now)
     (judging g.J.Judge c.args.bench.now) (judging g.J.Judge c.args.bench.now) 11 (returns-in-Err-NoMemory-clause-runs g c)).finished
 
 pub returns-in-Err-NoMemory-clause-files_kept : goal.returns-in-Err-NoMemory-clause-files_kept
 returns-in-Err-NoMemory-clause-files_kept g c = (promises (texts_of c.args.list.now) (length c.args.bench.now.judges) (says_of g.J.Judge c.args.bench.now)
-    (outside g.F.Outside g.F.Files c.args.files.now g.O.Sink c.args.out.now) (outside g.F.Outside g.F.Files c.args.files.now g.O.Sink c.args.out.now)
+    (outside g.F.Outside c.args.files.now g.O.Sink c.args.out.now) (outside g.F.Outside c.args.files.now g.O.Sink c.args.out.now)
     (judging g.J.Judge c.args.bench.now) (judging g.J.Judge c.args.bench.now) 11 (returns-in-Err-NoMemory-clause-runs g c)).files_kept
 
 pub returns-in-Err-NoMemory-clause-fault_last : goal.returns-in-Err-NoMemory-clause-fault_last
 returns-in-Err-NoMemory-clause-fault_last g c = (promises (texts_of c.args.list.now) (length c.args.bench.now.judges) (says_of g.J.Judge c.args.bench.now)
-    (outside g.F.Outside g.F.Files c.args.files.now g.O.Sink c.args.out.now) (outside g.F.Outside g.F.Files c.args.files.now g.O.Sink c.args.out.now)
+    (outside g.F.Outside c.args.files.now g.O.Sink c.args.out.now) (outside g.F.Outside c.args.files.now g.O.Sink c.args.out.now)
     (judging g.J.Judge c.args.bench.now) (judging g.J.Judge c.args.bench.now) 11 (returns-in-Err-NoMemory-clause-runs g c)).fault_last
 
 pub returns-in-Err-NoMemory-clause-no_files : goal.returns-in-Err-NoMemory-clause-no_files
 returns-in-Err-NoMemory-clause-no_files g c = (promises (texts_of c.args.list.now) (length c.args.bench.now.judges) (says_of g.J.Judge c.args.bench.now)
-    (outside g.F.Outside g.F.Files c.args.files.now g.O.Sink c.args.out.now) (outside g.F.Outside g.F.Files c.args.files.now g.O.Sink c.args.out.now)
+    (outside g.F.Outside c.args.files.now g.O.Sink c.args.out.now) (outside g.F.Outside c.args.files.now g.O.Sink c.args.out.now)
     (judging g.J.Judge c.args.bench.now) (judging g.J.Judge c.args.bench.now) 11 (returns-in-Err-NoMemory-clause-runs g c)).no_files
 
 pub returns-in-Err-NoMemory-clause-journal_kept : goal.returns-in-Err-NoMemory-clause-journal_kept
 returns-in-Err-NoMemory-clause-journal_kept g c = (promises (texts_of c.args.list.now) (length c.args.bench.now.judges) (says_of g.J.Judge c.args.bench.now)
-    (outside g.F.Outside g.F.Files c.args.files.now g.O.Sink c.args.out.now) (outside g.F.Outside g.F.Files c.args.files.now g.O.Sink c.args.out.now)
+    (outside g.F.Outside c.args.files.now g.O.Sink c.args.out.now) (outside g.F.Outside c.args.files.now g.O.Sink c.args.out.now)
     (judging g.J.Judge c.args.bench.now) (judging g.J.Judge c.args.bench.now) 11 (returns-in-Err-NoMemory-clause-runs g c)).journal_kept
 
 pub returns-in-Err-NoMemory-clause-asks_only : goal.returns-in-Err-NoMemory-clause-asks_only
 returns-in-Err-NoMemory-clause-asks_only g c = (promises (texts_of c.args.list.now) (length c.args.bench.now.judges) (says_of g.J.Judge c.args.bench.now)
-    (outside g.F.Outside g.F.Files c.args.files.now g.O.Sink c.args.out.now) (outside g.F.Outside g.F.Files c.args.files.now g.O.Sink c.args.out.now)
+    (outside g.F.Outside c.args.files.now g.O.Sink c.args.out.now) (outside g.F.Outside c.args.files.now g.O.Sink c.args.out.now)
     (judging g.J.Judge c.args.bench.now) (judging g.J.Judge c.args.bench.now) 11 (returns-in-Err-NoMemory-clause-runs g c)).asks_only
 
 pub returns-in-Err-NoMemory-clause-completes : goal.returns-in-Err-NoMemory-clause-completes
 returns-in-Err-NoMemory-clause-completes g c = (promises (texts_of c.args.list.now) (length c.args.bench.now.judges) (says_of g.J.Judge c.args.bench.now)
-    (outside g.F.Outside g.F.Files c.args.files.now g.O.Sink c.args.out.now) (outside g.F.Outside g.F.Files c.args.files.now g.O.Sink c.args.out.now)
+    (outside g.F.Outside c.args.files.now g.O.Sink c.args.out.now) (outside g.F.Outside c.args.files.now g.O.Sink c.args.out.now)
     (judging g.J.Judge c.args.bench.now) (judging g.J.Judge c.args.bench.now) 11 (returns-in-Err-NoMemory-clause-runs g c)).completes
 
 pub returns-in-Err-Usage-clause-others : goal.returns-in-Err-Usage-clause-others

@@ -17,11 +17,11 @@ returns-in-Err-clause-runs g c = uncopied c.in-Err.ensures.lacks refl
 
 pub returns-in-Ok-false-clause-runs : goal.returns-in-Ok-false-clause-runs
 returns-in-Ok-false-clause-runs g c =
-    foreign c.in-Ok.bytes.items (outside g.W.Outside g.W.Files c.read_copy.new.world g.O.Sink c.read_copy.new.out) c.in-Ok.ensures.has
+    foreign c.in-Ok.bytes.items (outside g.W.Outside c.read_copy.new.world g.O.Sink c.read_copy.new.out) c.in-Ok.ensures.has
     (subst (λ (b : List ℕ). Fits c.args.marks c.args.task.now.limit c.args.header b → ⊥) c.deref.ensures.value (c.in-Ok-false.ensures.differs (ap Ok c.in-Ok-false.field-0-test))) c.fits.ensures.bounded refl refl c.put_refused.ensures
 
 pub returns-in-Err-fits-clause-runs : goal.returns-in-Err-fits-clause-runs
-returns-in-Err-fits-clause-runs g c = starved c.in-Ok.bytes.items (outside g.W.Outside g.W.Files c.read_copy.new.world g.O.Sink c.read_copy.new.out) c.in-Ok.ensures.has refl refl refl
+returns-in-Err-fits-clause-runs g c = starved c.in-Ok.bytes.items (outside g.W.Outside c.read_copy.new.world g.O.Sink c.read_copy.new.out) c.in-Ok.ensures.has refl refl refl
 
 pub follow_on-requires-clause-rests : goal.follow_on-requires-clause-rests
 follow_on-requires-clause-rests g c κs within =
@@ -36,8 +36,8 @@ returns-in-Ok-bind-clause-runs g c =
     let asked = c.args.task.now in
     let bytes = c.in-Ok.bytes.items in
     let question = c.in-Ok-bind.question in
-    let read = outside g.W.Outside g.W.Files c.read_copy.new.world g.O.Sink c.read_copy.new.out in
-    let new = outside g.W.Outside g.W.Files c.follow_on.new.world g.O.Sink c.follow_on.new.out in
+    let read = outside g.W.Outside c.read_copy.new.world g.O.Sink c.read_copy.new.out in
+    let new = outside g.W.Outside c.follow_on.new.world g.O.Sink c.follow_on.new.out in
     let key = subst (λ (b : List ℕ). g.A.Asking.bound_key question.bound ≡ g.A.Asking.key asked.asking.now b) c.deref-2.ensures.value c.in-Ok-bind.ensures.key in
     lawful bytes read c.in-Ok.ensures.has (subst (Fits c.args.marks asked.limit c.args.header) c.deref.ensures.value (c.in-Ok-true.ensures.fits (ap Ok c.in-Ok-true.field-0-test)))
     (c.in-Ok-None.ensures.lawful (ap Ok c.in-Ok-None.field-0-is))
@@ -45,16 +45,16 @@ returns-in-Ok-bind-clause-runs g c =
     (bound_task g.P.Passes g.L.Law g.A.Asking asked question.bound (says_of g.J.Judge c.args.bench.now) bytes c.in-Ok-bind.ensures.asks key) c.follow_on.ensures.follows)
 
 pub returns-in-Err-bind-clause-runs : goal.returns-in-Err-bind-clause-runs
-returns-in-Err-bind-clause-runs g c = starved c.in-Ok.bytes.items (outside g.W.Outside g.W.Files c.read_copy.new.world g.O.Sink c.read_copy.new.out) c.in-Ok.ensures.has refl refl refl
+returns-in-Err-bind-clause-runs g c = starved c.in-Ok.bytes.items (outside g.W.Outside c.read_copy.new.world g.O.Sink c.read_copy.new.out) c.in-Ok.ensures.has refl refl refl
 
 pub returns-in-Ok-bind-clause-silent : goal.returns-in-Ok-bind-clause-silent
 returns-in-Ok-bind-clause-silent g c = λ quiet. c.follow_on.ensures.silent (c.in-Ok-bind.ensures.asks ∙ quiet)
 
 pub returns-in-Ok-Some-clause-runs : goal.returns-in-Ok-Some-clause-runs
 returns-in-Ok-Some-clause-runs g c =
-    ruled_out c.in-Ok.bytes.items (outside g.W.Outside g.W.Files c.read_copy.new.world g.O.Sink c.read_copy.new.out) c.in-Ok-Some.reason c.in-Ok.ensures.has
+    ruled_out c.in-Ok.bytes.items (outside g.W.Outside c.read_copy.new.world g.O.Sink c.read_copy.new.out) c.in-Ok-Some.reason c.in-Ok.ensures.has
     (subst (Fits c.args.marks c.args.task.now.limit c.args.header) c.deref.ensures.value (c.in-Ok-true.ensures.fits (ap Ok c.in-Ok-true.field-0-test)))
     (c.in-Ok-Some.ensures.unlawful c.in-Ok-Some.reason (ap Ok c.in-Ok-Some.field-0-is)) (c.in-Ok-Some.ensures.against c.in-Ok-Some.reason (ap Ok c.in-Ok-Some.field-0-is)) refl refl c.refuse.ensures
 
 pub returns-in-Err-ruled-clause-runs : goal.returns-in-Err-ruled-clause-runs
-returns-in-Err-ruled-clause-runs g c = starved c.in-Ok.bytes.items (outside g.W.Outside g.W.Files c.read_copy.new.world g.O.Sink c.read_copy.new.out) c.in-Ok.ensures.has refl refl refl
+returns-in-Err-ruled-clause-runs g c = starved c.in-Ok.bytes.items (outside g.W.Outside c.read_copy.new.world g.O.Sink c.read_copy.new.out) c.in-Ok.ensures.has refl refl refl

@@ -28,11 +28,12 @@ returns-in-Done-clause-ends g c =
     let after = judging g.J.Judge c.reduce_kept-end.new.bench in
     let old = g.W.Outside.story c.args.world.now in
     let new = g.W.Outside.story c.reduce_kept-end.new.disk in
-    concluded c.in-Done.end (outside g.W.Outside g.W.Files c.reduce_kept-end.new.disk g.O.Sink c.args.out.now) c.conclude.ensures.0
+    concluded c.in-Done.end (outside g.W.Outside c.reduce_kept-end.new.disk g.O.Sink c.args.out.now) c.conclude.ensures.0
     (subst (λ verdicts. IsReductionOn (later verdicts).search before after c.args.task.now.window c.args.task.now.limit c.args.kept c.in-Done.end) c.requires.forgot c.in-Done.ensures.goes_on)
     (record {
       journal = subst (λ verdicts. Journals (AreOfReduction (later verdicts).search c.args.task.now.limit c.args.kept old) old new) c.requires.forgot
           (journals_of (later c.args.bench.now.kept).search c.args.task.now.limit c.args.kept old new c.in-Done.ensures.lasts c.in-Done.ensures.any_moment);
+      faults = c.in-Done.ensures.later;
       output = refl;
       output_faults = refl;
     }) c.in-Done.ensures.rests c.conclude.ensures.1 c.conclude.ensures.2
@@ -49,4 +50,4 @@ returns-in-Disk-clause-ends g c =
     (subst (λ verdicts. IsReductionOn (later verdicts).search before after c.args.task.now.window c.args.task.now.limit c.args.kept cut.0) c.requires.forgot cut.2)
     (subst (λ verdicts. Journals (AreOfReduction (later verdicts).search c.args.task.now.limit c.args.kept old) old new) c.requires.forgot
     (journals_of (later c.args.bench.now.kept).search c.args.task.now.limit c.args.kept old new c.in-Disk.ensures.lasts c.in-Disk.ensures.any_moment))
-    (c.in-Disk.ensures.failed refl).1 c.put_fault.ensures
+    (c.in-Disk.ensures.failed refl) c.put_fault.ensures

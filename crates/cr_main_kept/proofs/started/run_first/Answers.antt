@@ -21,8 +21,8 @@ returns-in-Ok-bind-clause-runs g c =
     let asked = c.args.task.now in
     let bytes = c.in-Ok.bytes.items in
     let question = c.in-Ok-bind.question in
-    let read = outside g.W.Outside g.W.Files c.open.new.files g.O.Sink c.open.new.out in
-    let new = outside g.W.Outside g.W.Files c.start_on.new.world g.O.Sink c.start_on.new.out in
+    let read = outside g.W.Outside c.open.new.files g.O.Sink c.open.new.out in
+    let new = outside g.W.Outside c.start_on.new.world g.O.Sink c.start_on.new.out in
     let key = subst (λ (b : List ℕ). g.A.Asking.bound_key question.bound ≡ g.A.Asking.key asked.asking.now b) c.deref.ensures.value c.in-Ok-bind.ensures.key in
     opened bytes read c.in-Ok.ensures.opened
     (subst (λ (t : Task). StartsOn t c.args.marks bytes read new (judging g.J.Judge c.args.bench.now) (judging g.J.Judge c.start_on.new.bench) (g.W.Disk.has_failed c.start_on.new.world) c.start_on.result)
@@ -30,7 +30,7 @@ returns-in-Ok-bind-clause-runs g c =
 
 pub returns-in-Err-bind-clause-runs : goal.returns-in-Err-bind-clause-runs
 returns-in-Err-bind-clause-runs g c =
-    opened c.in-Ok.bytes.items (outside g.W.Outside g.W.Files c.open.new.files g.O.Sink c.open.new.out) c.in-Ok.ensures.opened (stopped (wanting (asked_nothing refl) refl refl refl refl))
+    opened c.in-Ok.bytes.items (outside g.W.Outside c.open.new.files g.O.Sink c.open.new.out) c.in-Ok.ensures.opened (stopped (wanting (asked_nothing refl) refl refl refl refl))
 
 pub returns-in-Ok-bind-clause-silent : goal.returns-in-Ok-bind-clause-silent
 returns-in-Ok-bind-clause-silent g c = λ quiet. c.start_on.ensures.silent (c.in-Ok-bind.ensures.asks ∙ quiet)

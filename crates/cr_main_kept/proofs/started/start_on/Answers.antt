@@ -1,4 +1,4 @@
-use Rattle.std.proofs.Common.{[], refl, subst, sym, ◌∙◌}
+use Rattle.std.proofs.Common.{[], refl, subst, sym, ◌∙◌, arith}
 use Rattle.cr_journal.specs.Keeping.{Rests}
 use Rattle.cr_journal_rows.specs.Forms.{bodies_of, header_body}
 use Rattle.cr_journal_rows.specs.declared.header.Header.{Header}
@@ -18,8 +18,9 @@ returns-in-Err-clause-starts g c = stopped c.in-Err.ensures.stopped
 
 pub returns-in-Err-begin-clause-starts : goal.returns-in-Err-begin-clause-starts
 returns-in-Err-begin-clause-starts g c =
-    unbegun (outside g.W.Outside g.W.Files c.begin.new.files g.O.Sink c.begin.new.out) c.in-Ok.size c.in-Err-begin.fault c.in-Ok.ensures.begun
-    (subst (λ (h : Header). Journals (BeginWith h) (g.W.Outside.story c.begin.new.files) (g.W.Outside.story c.begin-2.new.disk)) c.header_of-header.ensures c.begin-2.ensures.journals)
+    let it = c.begin-2.ensures.journals in
+    unbegun (outside g.W.Outside c.begin.new.files g.O.Sink c.begin.new.out) it.0 c.in-Ok.size c.in-Err-begin.fault c.in-Ok.ensures.begun it.1
+    (subst (λ (h : Header). Journals (BeginWith h) it.0 (g.W.Outside.story c.begin-2.new.disk)) c.header_of-header.ensures it.2)
     (c.in-Err-begin.ensures.cause c.in-Err-begin.fault refl) c.put_stop.ensures
 
 pub reduce_on-requires-clause-rests : goal.reduce_on-requires-clause-rests
@@ -28,11 +29,15 @@ reduce_on-requires-clause-rests g c κs within =
 
 pub returns-clause-starts : goal.returns-clause-starts
 returns-clause-starts g c =
-    let started = outside g.W.Outside g.W.Files c.begin-2.new.disk g.O.Sink c.begin.new.out in
-    let new = outside g.W.Outside g.W.Files c.reduce_on.new.world g.O.Sink c.reduce_on.new.out in
-    begun (outside g.W.Outside g.W.Files c.begin.new.files g.O.Sink c.begin.new.out) started (judging g.J.Judge c.begin.new.bench) c.in-Ok.size c.first-kept.result c.in-Ok.ensures.begun
+    let started = outside g.W.Outside c.begin-2.new.disk g.O.Sink c.begin.new.out in
+    let new = outside g.W.Outside c.reduce_on.new.world g.O.Sink c.reduce_on.new.out in
+    let copied = outside g.W.Outside c.begin.new.files g.O.Sink c.begin.new.out in
+    let it = c.in-Ok-begin.ensures.opened in
+    begun copied (record copied { story = it.0 }) started (judging g.J.Judge c.begin.new.bench) c.in-Ok.size c.first-kept.result c.in-Ok.ensures.begun
+    (record { story = it.1; faults = omega arith; output = refl; output_faults = refl })
     (record {
-      journal = subst (λ (h : Header). Journals (BeginWith h) (g.W.Outside.story c.begin.new.files) (g.W.Outside.story c.begin-2.new.disk)) c.header_of-header.ensures c.begin-2.ensures.journals;
+      journal = subst (λ (h : Header). Journals (BeginWith h) it.0 (g.W.Outside.story c.begin-2.new.disk)) c.header_of-header.ensures it.2;
+      faults = c.begin-2.ensures.later;
       output = refl;
       output_faults = refl;
     })

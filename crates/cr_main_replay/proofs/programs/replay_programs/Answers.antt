@@ -22,8 +22,8 @@ run_replay-requires g c = record { law = law_is_of_programs c.with_steps-law.res
 
 pub returns-clause-runs : goal.returns-clause-runs
 returns-clause-runs g c =
-    let old = outside g.F.Outside g.F.Files c.args.files.now g.O.Sink c.args.out.now in
-    let new = outside g.F.Outside g.F.Files c.run_replay.new.files g.O.Sink c.run_replay.new.out in
+    let old = outside g.F.Outside c.args.files.now g.O.Sink c.args.out.now in
+    let new = outside g.F.Outside c.run_replay.new.files g.O.Sink c.run_replay.new.out in
     subst (λ (l : Limits). RunsReplay (replaying_within l c.args.enabled c.args.log.now c.args.file.now) old new c.run_replay.result) c.with_steps-law.ensures.limits c.run_replay.ensures.runs
 
 pub returns-clause-replayed : goal.returns-clause-replayed

@@ -11,7 +11,7 @@ use Rattle.cr_main_standing.proofs.run.run_bound.Goals as goal
 pub returns-in-Err-clause-runs : goal.returns-in-Err-clause-runs
 returns-in-Err-clause-runs g c =
     let t = task_for g.P.Passes g.L.Law g.Q.Question c.args.task.now c.args.question.now (says_of g.J.Judge c.args.bench.now) in
-    stopped t (by_standing t) c.args.bytes.items (outside g.F.Outside g.F.Files c.args.files.now g.O.Sink c.args.out.now) (outside g.F.Outside g.F.Files c.begin.new.files g.O.Sink c.begin.new.out)
+    stopped t (by_standing t) c.args.bytes.items (outside g.F.Outside c.args.files.now g.O.Sink c.args.out.now) (outside g.F.Outside c.begin.new.files g.O.Sink c.begin.new.out)
     (judging g.J.Judge c.args.bench.now) (judging g.J.Judge c.begin.new.bench) c.in-Err.status c.in-Err.ensures.stopped
 
 pub conclude-requires-clause-sized : goal.conclude-requires-clause-sized
@@ -29,10 +29,10 @@ pub returns-clause-runs : goal.returns-clause-runs
 returns-clause-runs g c =
     let by_says = task_for g.P.Passes g.L.Law g.Q.Question c.args.task.now c.args.question.now in
     let t = by_says (says_of g.J.Judge c.args.bench.now) in
-    let copied = outside g.F.Outside g.F.Files c.begin.new.files g.O.Sink c.begin.new.out in
+    let copied = outside g.F.Outside c.begin.new.files g.O.Sink c.begin.new.out in
     let since = judging g.J.Judge c.begin.new.bench in
     let after = judging g.J.Judge c.reduce_standing-end.new.bench in
-    whole t (by_standing t) c.args.bytes.items (outside g.F.Outside g.F.Files c.args.files.now g.O.Sink c.args.out.now) (outside g.F.Outside g.F.Files c.conclude.new.files g.O.Sink c.conclude.new.out)
+    whole t (by_standing t) c.args.bytes.items (outside g.F.Outside c.args.files.now g.O.Sink c.args.out.now) (outside g.F.Outside c.conclude.new.files g.O.Sink c.conclude.new.out)
     (judging g.J.Judge c.args.bench.now) after c.conclude.result copied copied since c.reduce_standing-end.result c.in-Ok.old_size c.conclude.ensures.0
     c.in-Ok.ensures.begun refl (nothing_yet copied)
     (subst (λ says. IsStanding (by_says says) since after c.args.bytes.items c.reduce_standing-end.result) c.in-Ok.ensures.says (record {

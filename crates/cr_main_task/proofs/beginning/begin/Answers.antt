@@ -29,7 +29,7 @@ returns-in-Yes-clause-begun g c =
     let asked = is_asked t before now c.args.bytes.now.items handed c.deref.ensures.value Yes (λ uses. asks_first g.J.Judge old new t.search.name handed Yes facts.some facts.count facts.others (facts.once uses))
     c.requires.lawful (λ quiet. ap (λ (b : Benched g.row.J.Denot). map g.J.Judge.calls b.judges) (facts.silent quiet))
     (asked_once g.J.Judge t.search.asks old new Yes facts.some facts.count facts.others facts.counted (λ quiet. ap (λ (b : Benched g.row.J.Denot). b.judges) (facts.silent quiet))) on in
-    begun_by t c.args.bytes.now.items (outside g.F.Outside g.F.Files c.args.files.now g.O.Sink c.args.out.now) (outside g.F.Outside g.F.Files c.copy.new.files g.O.Sink c.copy.new.out) before now c.copy.result (is_answered t before now c.args.bytes.now.items handed c.deref.ensures.value Yes (λ uses. asks_first g.J.Judge old new t.search.name handed Yes facts.some facts.count facts.others (facts.once uses)) (λ none. cc) facts.told asked) c.copy.ensures.copied
+    begun_by t c.args.bytes.now.items (outside g.F.Outside c.args.files.now g.O.Sink c.args.out.now) (outside g.F.Outside c.copy.new.files g.O.Sink c.copy.new.out) before now c.copy.result (is_answered t before now c.args.bytes.now.items handed c.deref.ensures.value Yes (λ uses. asks_first g.J.Judge old new t.search.name handed Yes facts.some facts.count facts.others (facts.once uses)) (λ none. cc) facts.told asked) c.copy.ensures.copied
 
 pub returns-in-Yes-clause-stopped : goal.returns-in-Yes-clause-stopped
 returns-in-Yes-clause-stopped g c =
@@ -44,7 +44,7 @@ returns-in-Yes-clause-stopped g c =
     let asked = is_asked t before now c.args.bytes.now.items handed c.deref.ensures.value Yes (λ uses. asks_first g.J.Judge old new t.search.name handed Yes facts.some facts.count facts.others (facts.once uses))
     c.requires.lawful (λ quiet. ap (λ (b : Benched g.row.J.Denot). map g.J.Judge.calls b.judges) (facts.silent quiet))
     (asked_once g.J.Judge t.search.asks old new Yes facts.some facts.count facts.others facts.counted (λ quiet. ap (λ (b : Benched g.row.J.Denot). b.judges) (facts.silent quiet))) on in
-    stopped_by t c.args.bytes.now.items (outside g.F.Outside g.F.Files c.args.files.now g.O.Sink c.args.out.now) (outside g.F.Outside g.F.Files c.copy.new.files g.O.Sink c.copy.new.out) before now c.copy.result (is_answered t before now c.args.bytes.now.items handed c.deref.ensures.value Yes (λ uses. asks_first g.J.Judge old new t.search.name handed Yes facts.some facts.count facts.others (facts.once uses)) (λ none. cc) facts.told asked) c.copy.ensures.failed
+    stopped_by t c.args.bytes.now.items (outside g.F.Outside c.args.files.now g.O.Sink c.args.out.now) (outside g.F.Outside c.copy.new.files g.O.Sink c.copy.new.out) before now c.copy.result (is_answered t before now c.args.bytes.now.items handed c.deref.ensures.value Yes (λ uses. asks_first g.J.Judge old new t.search.name handed Yes facts.some facts.count facts.others (facts.once uses)) (λ none. cc) facts.told asked) c.copy.ensures.failed
 
 pub returns-in-No-clause-stopped : goal.returns-in-No-clause-stopped
 returns-in-No-clause-stopped g c =

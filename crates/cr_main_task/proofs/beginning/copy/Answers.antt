@@ -5,5 +5,5 @@ use Rattle.cr_main_task.proofs.beginning.copy.Goals as goal
 
 pub returns-in-Some-clause-failed : goal.returns-in-Some-clause-failed
 returns-in-Some-clause-failed g c = subst (λ b. SaveFails c.args.task.now.saves
-    (outside g.F.Outside g.F.Files c.args.files.now g.O.Sink c.args.out.now) (outside g.F.Outside g.F.Files c.save_beside.new.files g.O.Sink c.save_beside.new.out)
+    (outside g.F.Outside c.args.files.now g.O.Sink c.args.out.now) (outside g.F.Outside c.save_beside.new.files g.O.Sink c.save_beside.new.out)
     (copy_name c.args.task.now.name.now) b c.in-Some.status) c.deref-2.ensures.value (c.in-Some.ensures.failed c.in-Some.status refl)

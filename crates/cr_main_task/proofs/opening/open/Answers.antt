@@ -30,18 +30,18 @@ returns-in-Ok-None-clause-opened g c =
     let same = read_keeps (g.F.Outside.story c.args.files.now) (g.F.Outside.story c.read.new.self) c.args.name.now 1048577 (Bytes c.in-Bytes.bytes) c.in-Bytes.ensures.call in
     opened_there (record { Lawful = g.L.Law.lawful c.args.law.now; Against = g.L.Law.reasons c.args.law.now }) c.requires.law c.args.name.now
     (files_told (g.F.Outside.story c.args.files.now)) c.in-Bytes.bytes c.in-Bytes.ensures.told
-    (outside g.F.Outside g.F.Files c.args.files.now g.O.Sink c.args.out.now) (outside g.F.Outside g.F.Files c.read.new.self g.O.Sink c.args.out.now)
-    (c.in-Ok-None.ensures.lawful (ap Ok c.in-Ok-None.field-0-is)) (record { files = same; output = refl; file_faults = c.in-Bytes.ensures.later; output_faults = refl }) c.in-Bytes.ensures.call
+    (outside g.F.Outside c.args.files.now g.O.Sink c.args.out.now) (outside g.F.Outside c.read.new.self g.O.Sink c.args.out.now)
+    (c.in-Ok-None.ensures.lawful (ap Ok c.in-Ok-None.field-0-is)) (record { files = same; output = refl; faults = c.in-Bytes.ensures.later; output_faults = refl }) c.in-Bytes.ensures.call
 
 pub returns-in-Ok-Some-clause-unopened : goal.returns-in-Ok-Some-clause-unopened
 returns-in-Ok-Some-clause-unopened g c =
     let same = read_keeps (g.F.Outside.story c.args.files.now) (g.F.Outside.story c.read.new.self) c.args.name.now 1048577 (Bytes c.in-Bytes.bytes) c.in-Bytes.ensures.call in
     unopened_there (record { Lawful = g.L.Law.lawful c.args.law.now; Against = g.L.Law.reasons c.args.law.now }) c.requires.law c.args.name.now
     (files_told (g.F.Outside.story c.args.files.now)) c.in-Bytes.bytes c.in-Bytes.ensures.told
-    (outside g.F.Outside g.F.Files c.args.files.now g.O.Sink c.args.out.now) (outside g.F.Outside g.F.Files c.read.new.self g.O.Sink c.args.out.now) (outside g.F.Outside g.F.Files c.read.new.self g.O.Sink c.refuse-in-Ok-Some.new.out)
+    (outside g.F.Outside c.args.files.now g.O.Sink c.args.out.now) (outside g.F.Outside c.read.new.self g.O.Sink c.args.out.now) (outside g.F.Outside c.read.new.self g.O.Sink c.refuse-in-Ok-Some.new.out)
     c.in-Ok-Some.reason c.refuse-in-Ok-Some.result
     (c.in-Ok-Some.ensures.unlawful c.in-Ok-Some.reason (ap Ok c.in-Ok-Some.field-0-is)) (c.in-Ok-Some.ensures.against c.in-Ok-Some.reason (ap Ok c.in-Ok-Some.field-0-is))
-    (record { files = same; output = refl; file_faults = c.in-Bytes.ensures.later; output_faults = refl }) refl c.in-Bytes.ensures.call c.refuse-in-Ok-Some.ensures
+    (record { files = same; output = refl; faults = c.in-Bytes.ensures.later; output_faults = refl }) refl c.in-Bytes.ensures.call c.refuse-in-Ok-Some.ensures
 
 pub returns-in-Err-clause-unopened : goal.returns-in-Err-clause-unopened
 returns-in-Err-clause-unopened g c =
