@@ -167,9 +167,9 @@ journal_fault() {
 
 # journal_refused RECORD: why a journal isn't that of this reduction.
 journal_refused() {
-    if [ "$1" != 0 ]; then echo "Record $1 of it is no variant of the file before it, by these --passes and --steps, or isn't in the form."
+    if [ "$1" != 0 ]; then echo "Record $1 of it is no variant of the file before it, by these --passes and --steps, isn't in the form, or was cut off meanwhile."
     elif has_mode --journal; then echo "$name.journal is there already: go on with it by --resume in the place of --journal, or remove it to begin anew."
-    else echo "Its header isn't in the form, or has other --passes, --steps or --limit, or $name.orig isn't the file that it began with."; fi
+    else echo "Its header isn't in the form, was cut off meanwhile, or has other --passes, --steps or --limit, or $name.orig isn't the file that it began with."; fi
 }
 
 # explain WORD..: what there is to say beside the program's line.

@@ -64,6 +64,13 @@ impl MemDisk {
         fill_after(alloc, self.files.journal(), self.files.events(), fill)
     }
 
+    /// The files beside it, which keep each event of both.
+    pub fn files(&self) -> &MemFiles
+        ensures { story_of result.now ≡ told_by self.now }
+    {
+        &self.files
+    }
+
     // The file as it reads now.
     fn whole(&self, alloc: Global) -> Result<Vec<u8>, AllocError>
         ensures { IfOk result (λ bytes. bytes.items ≡ seen (told_by self.now)) }

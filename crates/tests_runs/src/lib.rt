@@ -33,6 +33,8 @@ mod system;
 #[cfg(test)]
 mod tables;
 #[cfg(test)]
+mod told;
+#[cfg(test)]
 mod ways;
 #[cfg(test)]
 mod words;

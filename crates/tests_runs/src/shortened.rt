@@ -3,11 +3,13 @@ ghost use Rattle.cr_outside_disk.specs.MemDisk.{faults_of, told_by};
 ghost use Rattle.cr_outside_disk.specs.Moments.{seen};
 ghost use Rattle.std.specs.Prelude.{None, length, tt};
 
-use crate::kept::journal_of;
-use crate::rehearsed::silent_bench;
+use crate::outcomes::words_in;
+use crate::rehearsed::{Rehearsed, silent_bench};
+use crate::told::{FILE, world_of};
 use cr_main::run_more;
-use cr_outside::{FileFault, Files, MemFiles, MemSink, Outside, ReadAnswer};
+use cr_outside::{FileFault, Files, MemSink, Outside, ReadAnswer};
 use cr_outside_disk::{Disk, DiskFault, MemDisk};
+use cr_pool::Bench;
 use std::alloc::{AllocError, Global};
 use std::process::Abort;
 use std::sync::Wait;
@@ -17,6 +19,7 @@ use std::thread::Threads;
 const HEADER_LEN: u64 = 33;
 
 /// A disk whose journal is cut to its header where it is opened for the second time. It tells nothing.
+#[derive(Drop)]
 struct Shortened {
     disk: MemDisk,
     is_open: bool,
@@ -76,42 +79,28 @@ impl Disk for Shortened {
     }
 }
 
-const FILE: &str = "int a;\nint b;\nint main(){}\n";
-
-// The file, its copy, and a journal with a header and a row.
-fn before(alloc: Global) -> Result<Shortened, AllocError> {
-    let mut pairs = Vec::new(alloc);
-    pairs.push((
-        String::from_str(alloc, "t.c")?,
-        String::from_str(alloc, FILE)?.into_bytes(),
-    ))?;
-    pairs.push((
-        String::from_str(alloc, "t.c.orig")?,
-        String::from_str(alloc, FILE)?.into_bytes(),
-    ))?;
-    let journal = journal_of(alloc, "header row 00")?;
-    let files = MemFiles::new(pairs, Vec::new(alloc)).with_journal(journal);
-    Ok(Shortened {
-        disk: MemDisk::beside(files, Vec::new(alloc)),
-        is_open: false,
-    })
+// The status of a run. It tells nothing else of what `run_more` ensures.
+fn status_of(
+    rt: &(impl Threads + Wait + Sync),
+    alloc: Global,
+    words: &[String],
+    world: &mut Shortened,
+    bench: &mut Bench<Rehearsed>,
+    out: &mut MemSink,
+) -> u8 {
+    run_more(rt, alloc, words, world, bench, out)
 }
 
-fn words(alloc: Global) -> Result<Vec<String>, AllocError> {
-    let mut words = Vec::new(alloc);
-    for word in "--resume --passes l has:b t.c".split_whitespace() {
-        words.push(String::from_str(alloc, word)?)?;
-    }
-    Ok(words)
-}
-
-// The status of the run and what it puts.
+// The status of a run on the file, its copy, and a journal with a header and a row, and what it puts.
 fn outcome(rt: &(impl Threads + Wait + Sync), alloc: Global) -> Result<(u8, MemSink), AllocError> {
-    let mut world = before(alloc)?;
+    let words = words_in(alloc, "--resume --passes l has:b t.c")?;
     let mut bench = silent_bench(alloc, 1)?;
     let mut out = MemSink::new(alloc, Vec::new(alloc));
-    let list = words(alloc)?;
-    let status = run_more(rt, alloc, &list, &mut world, &mut bench, &mut out);
+    let mut world = Shortened {
+        disk: world_of(alloc, FILE, "header row 00")?,
+        is_open: false,
+    };
+    let status = status_of(rt, alloc, &words, &mut world, &mut bench, &mut out);
     Ok((status, out))
 }
 
