@@ -1,11 +1,12 @@
 -- What events of the files and changes of the journal leave of each other.
-use Rattle.std.proofs.Common.{◌≡◌, ◌≤◌, ◌*◌, ◌+◌, inl, inr, ℕ, Bool, true, false, List, [], ◌∷◌, ◌++◌, length, Option, Some, None, Result, Ok, Err, refl, sym, ap, subst, arith, length-append}
+use Rattle.std.proofs.Common.{◌≡◌, ◌≢◌, ◌⊎◌, ◌≤◌, ◌*◌, ◌+◌, ◌∙◌, inl, inr, ℕ, Bool, true, false, List, [], ◌∷◌, ◌++◌, length, Option, Some, None, Result, Ok, Err, refl, sym, ap, subst, arith, length-append}
 use Rattle.std.specs.Prelude.{IfOk, OnOk}
 use Rattle.cr_outside_disk.specs.declared.disk.DiskFault.{DiskFault}
 use Rattle.cr_outside_disk.specs.declared.disk.DiskFault.TheVariants.{Failed, NoMemory}
 use Rattle.cr_journal_rows.specs.Faults.{fault_of_disk}
 use Rattle.cr_journal_rows.specs.Forms.{RecoversTold, bodies_of}
 use Rattle.cr_journal_rows.specs.declared.fault.JournalFault.{JournalFault}
+use Rattle.cr_journal_rows.specs.declared.fault.JournalFault.TheVariants as journal_fault
 use Rattle.cr_journal_rows.specs.declared.header.Header.{Header}
 use Rattle.std.specs.Global.{Vec}
 use Rattle.cr_main_kept.specs.Lines.{DiskFailed, IsDiskFault, journal_name}
@@ -17,6 +18,7 @@ use Rattle.cr_outside.specs.Story.Event.{Opened, Read}
 use Rattle.cr_outside.specs.declared.story.Outcome.{Outcome}
 use Rattle.cr_outside_disk.specs.Moments.{AlwaysTold, EveryTold, HasLength, LastsTold, Opens, seen}
 use Rattle.cr_outside_disk.proofs.Lasting.{lasts_same}
+use Rattle.cr_outside.proofs.Counts.{rose_earlier}
 use Rattle.cr_outside.proofs.Stories.{goes_event, goes_nowhere}
 use Rattle.cr_outside_disk.proofs.Images.{seen_is_image}
 use Rattle.cr_outside_disk.proofs.Moments.{begun}
@@ -144,3 +146,23 @@ started_length told (Err fault) ready size has is_ready is = tt
 pub disk_cause : (fault : DiskFault) (before now : ℕ) (has_failed : Bool) → (fault ≡ Failed → DiskFailed before now has_failed) → IsDiskFault (fault_of_disk fault) before now has_failed
 disk_cause Failed before now has_failed cause = cause refl
 disk_cause NoMemory before now has_failed cause = tt
+
+-- ---- a journal that is opened and begun
+
+pub begins_opened : (Are : List Body → Type 0) (name : List ℕ) (old opened new : Option Story) (result : Result (Unit {0}) JournalFault) → IsOpening name old opened → Journals Are opened new
+    → OnOk result ((ready : Option Story) × IsOpening name old ready × Journals Are ready new)
+begins_opened Are name old opened new (Ok done) opens journal = (opened, opens, journal)
+begins_opened Are name old opened new (Err fault) opens journal = tt
+
+pub begins_cause : (result : Result (Unit {0}) JournalFault) (why : JournalFault) (first before now : ℕ) (has_failed : Bool) → first ≤ before → (result ≡ Err journal_fault.Disk → DiskFailed before now has_failed)
+    → (result ≢ Ok tt → (result ≡ Err journal_fault.Disk) ⊎ (result ≡ Err journal_fault.NoMemory)) → result ≡ Err why → IsDiskFault why first now has_failed
+begins_cause result journal_fault.NoMemory first before now has_failed below failed plain is = tt
+begins_cause result journal_fault.Disk first before now has_failed below failed plain is = let it = failed is in (rose_earlier first before now below it.0, it.1)
+begins_cause result (journal_fault.Bad n) first before now has_failed below failed plain is = elim (plain (λ done. cc (sym is ∙ done))) [
+  | inl disk ↦ cc (sym is ∙ disk)
+  | inr none ↦ cc (sym is ∙ none)
+]
+begins_cause result (journal_fault.Differs n) first before now has_failed below failed plain is = elim (plain (λ done. cc (sym is ∙ done))) [
+  | inl disk ↦ cc (sym is ∙ disk)
+  | inr none ↦ cc (sym is ∙ none)
+]

@@ -55,9 +55,7 @@ pub fn first_gone(len: u64, count: u64) -> Option<u64>
     ensures none { result ≡ None → 32 * count + 33 ≤ len }
     ensures some { IfSome result (IsShrunk count len) }
 {
-    if len >= 33 && (len - 33) / 32 >= count {
-        None
-    } else {
-        Some(len.saturating_sub(1) / 32)
-    }
+    // Each record has the next gate behind it.
+    let whole = len.saturating_sub(1) / 32;
+    if whole > count { None } else { Some(whole) }
 }

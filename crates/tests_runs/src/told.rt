@@ -104,10 +104,24 @@ fn expect(
 }
 
 #[test]
-fn a_run_touches_its_file_the_copy_the_log_and_the_journal(rt: HostRuntime) -> Result<(), AllocError> {
+fn a_run_touches_its_file_the_copy_the_log_and_the_journal(
+    rt: HostRuntime,
+) -> Result<(), AllocError> {
     let alloc = rt.alloc();
     let mut empty = world_of(alloc, "none", "none")?;
-    expect(&rt, alloc, "--journal --passes l has:b t.c", &mut empty, BEGUN)?;
+    expect(
+        &rt,
+        alloc,
+        "--journal --passes l has:b t.c",
+        &mut empty,
+        BEGUN,
+    )?;
     let mut left = world_of(alloc, FILE, "header row 00")?;
-    expect(&rt, alloc, "--resume --passes l has:b t.c", &mut left, GONE_ON_WITH)
+    expect(
+        &rt,
+        alloc,
+        "--resume --passes l has:b t.c",
+        &mut left,
+        GONE_ON_WITH,
+    )
 }
