@@ -1,6 +1,6 @@
 // Words with flags, words of a replay, and words that have the place of either and are neither. What is wanted was found by hand from
 // their rules.
-use crate::words::{list_of, tell_passes, tell_settings};
+use crate::words::{expect_fault, list_of, tell_passes, tell_settings};
 use cr_main_words::{Engine, Modes, ReplaySettings, Request, WordFault, request_of};
 use std::alloc::{AllocError, Global};
 use std::process::Abort;
@@ -196,6 +196,7 @@ fn expect_all(rt: &impl Abort, alloc: Global, rows: &str) -> Result<(), AllocErr
         let found = answer(alloc, line)?;
         let wanted = line.split('|').next().unwrap_or("");
         assert!(rt; found.as_str() == wanted, "{line}: {found}");
+        expect_fault(rt, alloc, line, wanted == "no")?;
     }
     Ok(())
 }

@@ -1,4 +1,5 @@
 // The command line. What is wanted was found by hand from its rules.
+use cr_explain::word_fault;
 use cr_main_words::{Settings, Source, WordFault, words};
 use cr_outside::Test;
 use std::alloc::{AllocError, Global};
@@ -145,11 +146,25 @@ fn answer(alloc: Global, line: &str) -> Result<String, AllocError> {
     }
 }
 
+/// Whether a word that is in no form is found exactly where the words are refused, but for TEST's own text.
+pub(crate) fn expect_fault(
+    rt: &impl Abort,
+    alloc: Global,
+    line: &str,
+    is_refused: bool,
+) -> Result<(), AllocError> {
+    let list = list_of(alloc, line)?;
+    let found = word_fault(alloc, list.as_slice())?;
+    let is_wanted = is_refused && !line.contains("|has:|");
+    assert!(rt; found.is_some() == is_wanted, "{line}");
+    Ok(())
+}
+
 fn expect_answer(rt: &impl Abort, alloc: Global, line: &str) -> Result<(), AllocError> {
     let found = answer(alloc, line)?;
     let wanted = line.split('|').next().unwrap_or("");
     assert!(rt; found.as_str() == wanted, "{line}: {found}");
-    Ok(())
+    expect_fault(rt, alloc, line, wanted == "no")
 }
 
 #[test]
