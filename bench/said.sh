@@ -1,6 +1,6 @@
 #!/usr/bin/env bash
 # What creduce says of files and words as people bring them, one after the other, for a stranger's eye: bench/said.sh [PROGRAM] | less
-# It judges nothing: tests_explain compares the texts.
+# It judges nothing: tests_words compares the texts.
 set -u
 top=$(cd "$(dirname "$(readlink -f "${BASH_SOURCE[0]}")")/.." && pwd)
 program=$(readlink -f "${1:-$top/creduce}")

@@ -1,6 +1,7 @@
 // What is answered without a run.
 use crate::help::HELP;
-use cr_numbers::{Kind, number_of, number_text};
+use crate::rows::Kind;
+use crate::text::{number_of, number_text};
 use std::alloc::{AllocError, Global};
 
 /// The numbers of each kind, in the order of docs/NUMBERS.md.

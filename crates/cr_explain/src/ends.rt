@@ -3,6 +3,8 @@ use crate::lines::read_refusal;
 use crate::options::{FLAGS, VALUED};
 use crate::place::Place;
 use crate::refusals::refusal_text;
+use crate::rows::Kind;
+use crate::text::number_text;
 use crate::words::{test_fault, word_fault};
 use std::alloc::{AllocError, Global};
 
@@ -46,7 +48,11 @@ pub fn explanation(
         [test, file] => (*test, *file),
         _ => ("", ""),
     };
-    if matches!(status, 3 | 4 | 6 | 8) && are_swapped(test, seen.file) {
+    if is_replay(words) {
+        if status == 3 {
+            return missing_text(alloc, seen.folder);
+        }
+    } else if matches!(status, 3 | 4 | 6 | 8) && are_swapped(test, seen.file) {
         return format!(in alloc; "TEST comes first, then FILE: creduce '{file}' '{test}'\n");
     }
     match status {
@@ -64,6 +70,14 @@ pub fn explanation(
         13 => journal_text(alloc, file, line, words),
         14 => log_text(alloc, line),
         _ => Ok(String::new(alloc)),
+    }
+}
+
+// Whether the words ask for a replay, which has no test.
+fn is_replay(words: &[String]) -> bool {
+    match words.first() {
+        Some(word) => word.as_str() == "--replay",
+        None => false,
     }
 }
 
@@ -129,6 +143,12 @@ fn absent_text(alloc: Global, file: &str, line: &str, folder: &str) -> Result<St
     format!(in alloc; "FILE is looked for from the folder {folder}.\n")
 }
 
+fn missing_text(alloc: Global, folder: &str) -> Result<String, AllocError> {
+    format!(in alloc;
+        "--replay reads FILE.orig, LOG and FILE, all of them from the folder {folder}.\n"
+    )
+}
+
 fn refused_text(alloc: Global, line: &str, seen: Seen<'_>) -> Result<String, AllocError> {
     let Some(refused) = read_refusal(line) else {
         return Ok(String::new(alloc));
@@ -143,7 +163,7 @@ fn refused_text(alloc: Global, line: &str, seen: Seen<'_>) -> Result<String, All
             refused.number,
             seen.place,
         )?,
-        None => cr_numbers::number_text(alloc, refused.kind, refused.number)?,
+        None => number_text(alloc, refused.kind, refused.number)?,
     };
     if is_of_source(refused.kind) && !text.as_str().contains("creduce-prepare") {
         write!(
@@ -160,11 +180,8 @@ fn refused_text(alloc: Global, line: &str, seen: Seen<'_>) -> Result<String, All
 }
 
 // Whether another preparation of the source may cure it.
-fn is_of_source(kind: cr_numbers::Kind) -> bool {
-    matches!(
-        kind,
-        cr_numbers::Kind::Token | cr_numbers::Kind::Parse | cr_numbers::Kind::Name
-    )
+fn is_of_source(kind: Kind) -> bool {
+    matches!(kind, Kind::Token | Kind::Parse | Kind::Name)
 }
 
 // How to try a test as the program does.

@@ -1,5 +1,5 @@
 // The program's own line, read back.
-use cr_numbers::Kind;
+use crate::rows::Kind;
 
 /// What a line of status 4 or 5 says: `creduce: NAME:LINE: not in the subset: WORD NUMBER`, `not defined: U1` or `left the profile: N1`.
 #[derive(Clone, Copy, Debug, PartialEq, Eq)]

@@ -1,8 +1,9 @@
 // What a person needs beside a refusal.
 use crate::place::Place;
 use crate::remedies::remedy;
+use crate::rows::Kind;
 use crate::shown::{position_of, push_line};
-use cr_numbers::{Kind, form_text, number_text, push_folded};
+use crate::text::{form_text, number_text, push_folded};
 use std::alloc::{AllocError, Global};
 
 /// What is said of a refusal beside the program's line: the line of the file, where in it the fault stands, what the number means, and

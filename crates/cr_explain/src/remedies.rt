@@ -3,8 +3,8 @@ use crate::extensions::extension_remedy;
 use crate::forms::form_remedy;
 use crate::library::library_remedy;
 use crate::place::{Place, is_of_library};
+use crate::rows::Kind;
 use crate::shown::{Position, position_of};
-use cr_numbers::Kind;
 use std::alloc::{AllocError, Global};
 
 /// What can be done, by the number and by what stands at the fault; nothing where that is all in the number's row.

@@ -1,6 +1,6 @@
 // The trial folders of a run whose test is a program.
 use crate::one_run::Subject;
-use cr_start::{Plain, folders_in, holder_in, holder_text};
+use cr_around::{Plain, folders_in, holder_in, holder_text};
 use creduce_system::{Lock, Taking, is_others, is_within, takes_folders};
 use std::alloc::AllocError;
 use std::process;

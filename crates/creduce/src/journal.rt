@@ -1,8 +1,8 @@
 // The words beside a journal.
 use crate::one_run::Subject;
 use crate::refused::{program_sum, test_sum};
+use cr_around::{Begun, Ending, JournalWords, Plain, words_text};
 use cr_outside::Files;
-use cr_start::{Begun, Ending, JournalWords, Plain, words_text};
 use creduce_system::{StdFiles, has_length};
 use std::alloc::AllocError;
 use std::fs;

@@ -1,7 +1,7 @@
 // What is seen before a run begins, and why it then doesn't.
 use crate::one_run::Subject;
+use cr_around::{Begun, Plain, Saying, refusal_of};
 use cr_main_words::Engine;
-use cr_start::{Begun, Plain, Saying, refusal_of};
 use creduce_system::{facts, sum_of};
 use std::alloc::AllocError;
 

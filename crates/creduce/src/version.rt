@@ -1,6 +1,6 @@
 // What the program says of itself.
 use crate::refused::program_sum;
-use cr_start::recorded;
+use cr_around::recorded;
 use creduce_system::read_most;
 use std::alloc::AllocError;
 use std::fs;

@@ -1,6 +1,6 @@
 // Who waits for the end of a run beside it.
 use crate::one_run::Subject;
-use cr_start::{Plain, quoted};
+use cr_around::{Plain, quoted};
 use creduce_system::{Lock, Watchman, watch};
 use std::alloc::AllocError;
 use std::process::Processes;

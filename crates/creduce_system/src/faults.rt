@@ -2,7 +2,7 @@
 ghost use Rattle.std.specs.Prelude.{◌≡◌, ◌≢◌};
 ghost use Rattle.std.specs.IoError.{error_kind};
 
-use cr_place::PlaceFault;
+use cr_around::PlaceFault;
 use std::io::{self, ErrorKind};
 
 /// The fault that an error is.

@@ -3,7 +3,7 @@ use crate::older::stands;
 use crate::paths::{has_room, part_of};
 use crate::std_files::read_most;
 use crate::sums::sum_of;
-use cr_start::{Begun, Ending, Facts, Kind, Site, words_in};
+use cr_around::{Begun, Ending, Facts, Kind, Site, words_in};
 use std::alloc::{AllocError, Global};
 use std::fs::{self, File, FileType, OpenOptions};
 use std::io::{self, ErrorKind};

@@ -1,9 +1,9 @@
 //! The operating system behind the reducer's traits: its files, a journal's file, standard output, and programs as tests.
 //!
-//! Each adapter means what its trait in `cr_outside` or `cr_place` says. It tells no content, so of the disk nothing is claimed; it answers
+//! Each adapter means what its trait in `cr_outside` or `cr_around` says. It tells no content, so of the disk nothing is claimed; it answers
 //! `Failed` only where its count of faults rose. What a test program's end answers, and how the shell is told to start it, are definitions
 //! in `specs/Trial.antt`. Beside its answers, the judges that share a `Progress` keep the smallest file that passed the test and say on
-//! standard error how far they are. It stands on `cr_outside`, `cr_outside_disk`, `cr_place`, `cr_start` and std alone.
+//! standard error how far they are. It stands on `cr_around`, `cr_outside`, `cr_outside_disk` and std alone.
 #![tactic(auto)]
 
 mod best;

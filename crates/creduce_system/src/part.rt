@@ -3,7 +3,7 @@ ghost use Rattle.std.specs.Prelude.{◌≡◌, None};
 
 use crate::faults::{error_of, fault_of};
 use crate::paths::{folder_of, part_of};
-use cr_place::{PlaceFault, Shelf, replace};
+use cr_around::{PlaceFault, Shelf, replace};
 use std::alloc::Global;
 use std::fs::{self, File, Metadata, OpenOptions};
 use std::io::{self, ErrorKind, Write};

@@ -3,7 +3,7 @@ ghost use Rattle.std.specs.Prelude.{◌≡◌, ◌≤◌, Some};
 ghost use Rattle.creduce_system.specs.Progress.{is_smallest, smallest_of};
 
 use crate::best::Best;
-use cr_start::Plain;
+use cr_around::Plain;
 use std::alloc::Global;
 use std::fmt::{self, Display, Formatter};
 use std::fs::File;

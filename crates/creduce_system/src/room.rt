@@ -3,12 +3,13 @@ ghost use Rattle.std.specs.Prelude.{◌≡◌, None};
 
 use crate::faults::{allowing, fault_of};
 use crate::older::{keep_away, stands};
-use cr_place::{Place, PlaceFault};
+use cr_around::{Place, PlaceFault};
 use std::alloc::Global;
 use std::fs::{self, File, Metadata, OpenOptions};
 use std::io::{self, ErrorKind, Write};
 use std::os::fd::AsRawFd;
 use std::os::unix::fs::{MetadataExt, OpenOptionsExt};
+use std::process::{Command, Processes, Stdio};
 use std::rt::{Clock, Files as SystemFiles};
 use std::thread;
 use std::time::Duration;
@@ -46,7 +47,7 @@ impl<'a, R> Room<'a, R> {
     }
 }
 
-impl<R: Clock + Clone + Drop + SystemFiles<File = File>> Room<'_, R> {
+impl<R: Clock + Clone + Drop + Processes + SystemFiles<File = File>> Room<'_, R> {
     // Empties the folder where it is the one that this run made. Answers whether it is.
     fn empty(&self, alloc: Global, folder: &str) -> io::Result<bool> {
         let Some(own) = self.own else {
@@ -75,8 +76,8 @@ impl<R: Clock + Clone + Drop + SystemFiles<File = File>> Room<'_, R> {
     // Makes the folder, in the place of whatever stands there.
     fn renew(&mut self, alloc: Global, folder: &str) -> io::Result<()> {
         self.own = None;
-        if self.remove(alloc, folder).is_err() {
-            // A test has left something there that can't be taken away, as a folder without leave to write.
+        if self.remove(alloc, folder).is_err() && self.remove_closed(alloc, folder).is_err() {
+            // A test has left something there that can't be taken away, as a folder of another user's.
             keep_away(self.rt, alloc, folder)?;
         }
         fs::create_dir(self.rt, folder)?;
@@ -103,6 +104,24 @@ impl<R: Clock + Clone + Drop + SystemFiles<File = File>> Room<'_, R> {
         Err(io::Error::from(ErrorKind::DirectoryNotEmpty))
     }
 
+    // Takes away what stands there where a test has left folders without leave to write. No file's mode is changed, since it may have a name
+    // elsewhere, and no link is followed.
+    fn remove_closed(&self, alloc: Global, folder: &str) -> io::Result<()> {
+        if !fs::symlink_metadata(self.rt, folder)?.is_dir() {
+            return Err(io::Error::from(ErrorKind::PermissionDenied));
+        }
+        let mut command = Command::new(alloc, "find")?;
+        for word in [folder, "-type", "d", "-exec", "chmod", "u+rwx", "{}", ";"] {
+            command.arg(word)?;
+        }
+        command
+            .stdin(Stdio::null())
+            .stdout(Stdio::null())
+            .stderr(Stdio::null());
+        command.status(self.rt)?;
+        self.remove(alloc, folder)
+    }
+
     fn put_new(&self, path: &str, bytes: &[u8]) -> io::Result<()> {
         OpenOptions::new()
             .write(true)
@@ -113,7 +132,7 @@ impl<R: Clock + Clone + Drop + SystemFiles<File = File>> Room<'_, R> {
     }
 }
 
-impl<R: Clock + Clone + Drop + SystemFiles<File = File>> Place for Room<'_, R> {
+impl<R: Clock + Clone + Drop + Processes + SystemFiles<File = File>> Place for Room<'_, R> {
     ghost told = { λ _. None };
 
     fn clear(&mut self, alloc: Global, folder: &str) -> Result<(), PlaceFault> {

@@ -4,9 +4,9 @@ ghost use Rattle.cr_outside.specs.Faults.{Rose};
 
 use crate::part::sync_name;
 use crate::std_files::StdFiles;
+use cr_around::JournalWords;
 use cr_outside::{FileFault, Files, Outside, ReadAnswer};
 use cr_outside_disk::{Disk, DiskFault};
-use cr_start::JournalWords;
 use std::alloc::Global;
 use std::fs::{File, OpenOptions};
 use std::io::{self, ErrorKind};

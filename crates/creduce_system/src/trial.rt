@@ -1,11 +1,11 @@
 // One trial: where a judge puts the variant, and how it starts the test on it.
 ghost use Rattle.std.specs.Prelude.{◌≡◌, IfOk, None, Some, codes, string_bytes};
 ghost use Rattle.std.specs.Process.{command_args, command_program, command_var};
-ghost use Rattle.cr_place.specs.Holding.{Holds};
+ghost use Rattle.cr_around.specs.Holding.{Holds};
 ghost use Rattle.creduce_system.specs.Trial.{folder_of, shell_words};
 
 use crate::faults::error_of;
-use cr_place::{Place, hold_alone};
+use cr_around::{Place, hold_alone};
 use std::alloc::{AllocError, Global};
 use std::io;
 use std::process::{Command, ExitStatus, Processes, Stdio};

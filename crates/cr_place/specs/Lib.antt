@@ -1,3 +1,0 @@
-pub mod Holding
-pub mod MemPlace
-pub mod Replacing
