@@ -85,6 +85,8 @@ set +m
 sleep 1.5
 kill -INT -- "-$!"
 wait $! 2>/dev/null
+# What ends what the run has left goes then.
+sleep 2.5
 if cmp -s i.c i.copy && cmp -s i.c.orig i.copy && [ -z "$(ps -o stat= -g $! | grep -v Z)" ]; then
     echo "ok: an interrupt ends the program and its test, and FILE and FILE.orig are as they were"
 else
