@@ -94,7 +94,7 @@ if [ "$(id -u)" = 0 ] && command -v setpriv >/dev/null; then
     setpriv --reuid 65534 --regid 65534 --clear-groups timeout 60 "$program" ./t.sh f.c >../out.txt 2>../err.txt </dev/null || status=$?
     out=$(<../out.txt) err=$(<../err.txt)
     is 'a folder in which no trial folder can be made' '[ $status = 1 ] && says "no folder can be made here" && kept'
-    fresh && chmod 777 . && chmod 666 f.c && printf '#!/bin/sh\nmkdir d && touch d/x && ln -s ../../kept d/kept && chmod 555 d && grep -q main f.c\n' >t.sh && mkdir kept && touch kept/x && chmod 555 kept && as_user --workers 1 ./t.sh f.c
+    fresh && chmod 777 . && chmod 666 f.c && printf '#!/bin/sh\nmkdir d && touch d/x && ln -s ../../kept d/kept && chmod 555 d && grep -q main f.c\n' >t.sh && mkdir kept && touch kept/x && chmod 555 kept && chown 65534 kept && as_user --workers 1 ./t.sh f.c
     is 'a test that leaves a folder without leave to write' '[ $status = 0 ] && [ ! -e creduce-trial-0.1 ] && [ "$(mode kept)" = 555 ] && [ -e kept/x ]'
 else
     echo "not tried: what a user may not write, since this isn't root"
