@@ -105,7 +105,7 @@ impl<R: Clock + Clone + Drop + Eprint + Files<File = File> + Processes> Judge
             variant: file,
             mark: self.mark,
         };
-        let answer = answer(trial.run(self.rt, alloc, &mut self.room, tried));
+        let answer = answer(trial.run(self.rt, alloc, &mut self.room, &tried));
         if let Some(progress) = self.progress {
             progress.note(self.rt, alloc, self.number, file, answer == Answer::Yes);
         }

@@ -53,8 +53,9 @@ impl<R: Clock + Clone + Drop + Processes + SystemFiles<File = File>> Room<'_, R>
         let Some(own) = self.own else {
             return Ok(false);
         };
-        // What a test may have put in its place, as a pipe, isn't opened.
-        if number_of(&fs::symlink_metadata(self.rt, folder)?) != own {
+        // What a test may have put in its place, as a pipe, isn't opened. It may have the number of the folder that went.
+        let found = fs::symlink_metadata(self.rt, folder)?;
+        if !found.is_dir() || number_of(&found) != own {
             return Ok(false);
         }
         let open = fs::open(self.rt, folder)?;

@@ -47,12 +47,12 @@ impl Trial {
         rt: &R,
         alloc: Global,
         place: &mut P,
-        tried: Tried<'_>,
+        tried: &Tried<'_>,
     ) -> io::Result<ExitStatus>
-        ensures alone { IfOk result (λ _. Holds (string_bytes self.now.folder) tried.name.now tried.variant.now (P.told place.old) (P.told place.new)) }
+        ensures alone { IfOk result (λ _. Holds (string_bytes self.now.folder) tried.now.name.now tried.now.variant.now (P.told place.old) (P.told place.new)) }
     {
         match hold_alone(place, alloc, &self.folder, tried.name, tried.variant) {
-            Ok(()) => shell(alloc, &tried, &self.folder)?.status(rt),
+            Ok(()) => shell(alloc, tried, &self.folder)?.status(rt),
             Err(fault) => Err(error_of(fault)),
         }
     }
