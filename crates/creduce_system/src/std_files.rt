@@ -115,6 +115,18 @@ impl<R: SystemFiles<File = File>> StdFiles<'_, R> {
         put_subject(self.rt, alloc, name, bytes)
     }
 
+    // Writes a file as what it is to the reduction.
+    fn put(&mut self, alloc: Global, name: &str, bytes: &[u8]) -> io::Result<()>
+        ensures { self.new.faults ≡ self.old.faults }
+    {
+        match self.role(name) {
+            Role::Reduced => self.put_reduced(alloc, name, bytes),
+            Role::Any => put_subject(self.rt, alloc, name, bytes),
+            Role::Copy(reduced) => self.put_copy(alloc, name, reduced, bytes),
+            Role::Beside => put_beside(self.rt, alloc, name, bytes),
+        }
+    }
+
     // From here on the file may have these bytes.
     fn note_result(&mut self, alloc: Global, name: &str, bytes: &[u8]) -> io::Result<()>
         ensures { self.new.faults ≡ self.old.faults }
@@ -264,12 +276,7 @@ impl<R: SystemFiles<File = File>> Files for StdFiles<'_, R> {
     }
 
     fn write(&mut self, alloc: Global, name: &str, bytes: &[u8]) -> Result<(), FileFault> {
-        let written = match self.role(name) {
-            Role::Reduced => self.put_reduced(alloc, name, bytes),
-            Role::Any => put_subject(self.rt, alloc, name, bytes),
-            Role::Copy(reduced) => self.put_copy(alloc, name, reduced, bytes),
-            Role::Beside => put_beside(self.rt, alloc, name, bytes),
-        };
+        let written = self.put(alloc, name, bytes);
         self.answer_write(written)
     }
 }
