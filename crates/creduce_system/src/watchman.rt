@@ -36,11 +36,11 @@ pub fn watch<R: Processes>(
         .arg(mark)?
         .arg(reduced.unwrap_or(""))?
         .arg(how)?;
-    command.stdin(Stdio::piped());
-    match lock {
-        Some(lock) => command.stdout(Stdio::from(lock)),
-        None => command.stdout(Stdio::null()),
+    let output = match lock {
+        Some(lock) => Stdio::from(lock),
+        None => Stdio::null(),
     };
+    command.stdin(Stdio::piped()).stdout(output);
     let child = command.spawn(rt)?;
     Ok(Watchman { child })
 }
