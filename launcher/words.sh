@@ -133,6 +133,13 @@ word_fault() {
     while [ $# -gt 0 ]; do
         case $1 in
         --) shift && rest+=("$@") && break ;;
+        --reached | --reached=*)
+            name=--reached value=''
+            if [ "$rule" = places_fault ]; then
+                [[ $seen != *' --reached '* ]] || { echo '--reached stands twice'; return; }
+                [[ $1 =~ ^--reached=[A-Za-z_][A-Za-z0-9_]*$ ]] || { echo "--reached takes an identifier, as in --reached=NAME, and not \"$1\""; return; }
+                seen+='--reached ' && shift && continue
+            fi ;;
         --*=*) name=${1%%=*} value=${1#*=} ;;
         --journal | --resume | --any-order | --standing) [ "$rule" = names_fault ] || { shift && continue; } && name=$1 value='' ;;
         --*) name=$1 value='' ;;

@@ -75,12 +75,12 @@ by_others p A B R S limit taking leaving st out (fails position at turns worker 
 
 -- two readings of the same words
 module _ (a b : Settings) (same : SameSettings a b) (back : SameSettings b a) (one other : Query) (means : Means a.test one) (meant : Means b.test other)
-    (own its : List ℕ) (is_own : IsOwnName (name_of a.source) own) (is_its : IsOwnName (name_of b.source) its) (any_order : Bool) (says : Telling) where
+    (own its : List ℕ) (is_own : IsOwnName (name_of a.source) own) (is_its : IsOwnName (name_of b.source) its) (modes : Modes) (says : Telling) where
   abbrev asked_first : KeptTask
-  asked_first = asked_of a any_order one says own
+  asked_first = asked_of a modes one says own
 
   abbrev asked_then : KeptTask
-  asked_then = asked_of b any_order other says its
+  asked_then = asked_of b modes other says its
 
   owned : own ≡ its
   owned = one_own (name_of b.source) own its (subst (λ n. IsOwnName n own) (same_name a.source b.source same.source) is_own) is_its
@@ -95,10 +95,10 @@ module _ (a b : Settings) (same : SameSettings a b) (back : SameSettings b a) (o
   tells_back bytes file answer it = tells_alike b a back same other one meant means says its own (sym owned) bytes file answer it
 
   lawful : (file : List ℕ) → asked_first.law.Lawful file → asked_then.law.Lawful file
-  lawful file it = subst (λ (n : ℕ). (law_by any_order (limits_of n)).Lawful file) same.steps it
+  lawful file it = subst (λ (n : ℕ). (law_by modes (limits_of n)).Lawful file) same.steps it
 
   lawful_back : (file : List ℕ) → asked_then.law.Lawful file → asked_first.law.Lawful file
-  lawful_back file it = subst (λ (n : ℕ). (law_by any_order (limits_of n)).Lawful file) back.steps it
+  lawful_back file it = subst (λ (n : ℕ). (law_by modes (limits_of n)).Lawful file) back.steps it
 
   -- what a run has all of by the one, it has by the other
   pub all_bound : (old new : Outside) (before after : Judging) → HasAllBound (at asked_first) (text_of a.source old.files) old new before after → HasAllBound (at asked_then) (text_of b.source old.files) old new before after

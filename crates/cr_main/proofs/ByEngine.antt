@@ -55,12 +55,12 @@ unmoved k marks old new status same is = λ bytes size out first whole told safe
 )
 
 -- the headline of what is asked
-headline_for : (settings : Settings) (any_order : Bool) (query : Query) (says : Telling) (own : List ℕ) (By : List ℕ → Claiming) (text : Text) (old new : Outside) (before after : Judging) (status : ℕ)
-    → HasReducedBound (at (asked_of settings any_order query says own)) By text old new before after status
-    → HeadlineOf query (limits_of settings.steps) (at (asked_of settings any_order query says own)) By text old new before after status
-headline_for settings any_order by_test says own By text old new before after status it = it
-headline_for settings any_order (by_form form) says own By text old new before after status it =
-    formula_headline form (limits_of settings.steps) (at (asked_of settings any_order (by_form form) says own)) By text old new before after status
+headline_for : (settings : Settings) (modes : Modes) (query : Query) (says : Telling) (own : List ℕ) (By : List ℕ → Claiming) (text : Text) (old new : Outside) (before after : Judging) (status : ℕ)
+    → HasReducedBound (at (asked_of settings modes query says own)) By text old new before after status
+    → HeadlineOf query (limits_of settings.steps) (at (asked_of settings modes query says own)) By text old new before after status
+headline_for settings modes by_test says own By text old new before after status it = it
+headline_for settings modes (by_form form) says own By text old new before after status it =
+    formula_headline form (limits_of settings.steps) (at (asked_of settings modes (by_form form) says own)) By text old new before after status
     (record { quiet = λ bytes. refl; holds = λ bytes file holds. holds }) it
 
 module _ (k : KeptTask) (marks : Marks) (from : Source) (old new : Outside) (before after : Judging) (has_failed : Bool) (status : ℕ) where
@@ -117,9 +117,9 @@ module _ (k : KeptTask) (marks : Marks) (from : Source) (old new : Outside) (bef
   fails_in engine.Journal suits saves run eight = (by_journal (saves ∙ of_file_saves from suits) run).failing eight
   fails_in engine.Resume suits saves run eight = (by_resume (saves ∙ of_file_saves from suits) run).failing eight
 
-module _ (settings : Settings) (any_order : Bool) (query : Query) (says : Telling) (own : List ℕ) (old new : Outside) (before after : Judging) (has_failed : Bool) (status : ℕ) where
+module _ (settings : Settings) (modes : Modes) (query : Query) (says : Telling) (own : List ℕ) (old new : Outside) (before after : Judging) (has_failed : Bool) (status : ℕ) where
   abbrev k : KeptTask
-  k = asked_of settings any_order query says own
+  k = asked_of settings modes query says own
 
   abbrev text : Text
   text = text_of settings.source old.files
@@ -128,14 +128,14 @@ module _ (settings : Settings) (any_order : Bool) (query : Query) (says : Tellin
   ends_in engine.Plain suits run =
       let it = by_plain k (marks_of settings) settings.source old new before after has_failed status run in (
         record {
-          headline = λ done. headline_for settings any_order query says own (λ bytes. by_epochs (at k bytes)) text old new before after status (it.headline done);
+          headline = λ done. headline_for settings modes query says own (λ bytes. by_epochs (at k bytes)) text old new before after status (it.headline done);
           finished = it.finished;
         },
         λ reduced done. few_asked (at k reduced.bytes) (read_of text reduced.bytes) old new before after status done reduced.reduced,
       )
   ends_in engine.Standing suits run =
       let it = by_workers k (marks_of settings) settings.source old new before after has_failed status run in record {
-        headline = λ done. headline_for settings any_order query says own (λ bytes. by_standing (at k bytes)) text old new before after status (it.headline done);
+        headline = λ done. headline_for settings modes query says own (λ bytes. by_standing (at k bytes)) text old new before after status (it.headline done);
         finished = it.finished;
       }
   ends_in engine.Journal suits run =
@@ -155,5 +155,5 @@ module _ (settings : Settings) (any_order : Bool) (query : Query) (says : Tellin
       (λ bytes file. one_answer_of settings.test settings.steps query bytes says own file) run.0
   completes_in engine.Resume suits run =
       resume_completes k (marks_of settings) old new before after has_failed status (of_file_saves settings.source suits) levels_at (passes_levels settings.enabled) bytes_enough
-      (λ bytes file. one_answer_of settings.test settings.steps query bytes says own file) (law_is any_order (limits_of settings.steps)) (λ file o other. one_offer settings.enabled file o other)
+      (λ bytes file. one_answer_of settings.test settings.steps query bytes says own file) (law_is modes (limits_of settings.steps)) (λ file o other. one_offer settings.enabled file o other)
       (record { none_above = λ file o pass level is above. no_level settings.enabled file o pass level is (omega (arith, above)); few = few_variants settings.enabled }) run.0

@@ -91,8 +91,8 @@ pub data RunsAsked (settings : Settings) (modes : Modes) (says : Says) (old new 
   unread_word : new ≡ old → after ≡ before → status ≡ 11 → RunsAsked settings modes says old new before after has_failed status
   -- a question that uses no judge asks none
   reduces : (query : Query) (own : List ℕ) → Means settings.test query → IsOwnName (name_of settings.source) own
-      → ((asked_of settings modes.any_order query says own).asks ≡ false → after ≡ before)
-      → RunsIn modes.engine (asked_of settings modes.any_order query says own) (marks_of settings) settings.source old new before after has_failed status
+      → ((asked_of settings modes query says own).asks ≡ false → after ≡ before)
+      → RunsIn modes.engine (asked_of settings modes query says own) (marks_of settings) settings.source old new before after has_failed status
       → RunsAsked settings modes says old new before after has_failed status
 
 -- the log and the file that are asked for, the steps and the passes
@@ -154,7 +154,7 @@ AsksForJournal words most = (settings : Settings) × (modes : Modes) × (query :
 -- **A run that keeps a journal survives its stops.**
 abbrev pub SurvivesMore : List Word → ℕ → Says → Outside → Outside → ℕ → Type 0
 SurvivesMore words most says old new status = (settings : Settings) (modes : Modes) (query : Query) (own : List ℕ) → IsReducing words most settings modes query own → IsKept modes.engine
-    → Survives (asked_of settings modes.any_order query says own) (marks_of settings) old new status
+    → Survives (asked_of settings modes query says own) (marks_of settings) old new status
 
 -- **The headline**, by an engine of which this is claimed: of a formula with no premise on the outside.
 abbrev pub HeadlineOf : Query → Limits → (List ℕ → Task) → (List ℕ → Claiming) → Text → Outside → Outside → Judging → Judging → ℕ → Type 0
@@ -188,8 +188,8 @@ EndsIn engine.Resume settings query k old new before after has_failed status = E
 -- log leads from the copy to the file**.
 pub data EndsMore (words : List Word) (most : ℕ) (says : Says) (old new : Outside) (before after : Judging) (has_failed : Bool) (status : ℕ) : Type 0 where
   of_reduction : (settings : Settings) (modes : Modes) (query : Query) (own : List ℕ) → IsReducing words most settings modes query own
-      → EndsIn modes.engine settings query (asked_of settings modes.any_order query says own) old new before after has_failed status
-      → (status ≡ 8 → (asked_of settings modes.any_order query says own).asks ≡ true) → EndsMore words most says old new before after has_failed status
+      → EndsIn modes.engine settings query (asked_of settings modes query says own) old new before after has_failed status
+      → (status ≡ 8 → (asked_of settings modes query says own).asks ≡ true) → EndsMore words most says old new before after has_failed status
   of_replay : (asked : ReplaySettings) → Asks words most (request.Replay asked) → ((status ≡ 0) ⊎ (status ≡ 10) → IsReplayed (replaying_by asked) old.files)
       → EndsMore words most says old new before after has_failed status
   of_nothing : (status ≡ 2) ⊎ (status ≡ 11) → EndsMore words most says old new before after has_failed status
@@ -204,7 +204,7 @@ KeepsIn engine.Resume source k old new after = KeepsFilesOn k (files_told old.st
 pub data KeepsMore (words : List Word) (most : ℕ) (says : Says) (old new : Outside) (after : Judging) : Type 0 where
   more_unchanged : new.files ≡ old.files → KeepsMore words most says old new after
   more_kept : (settings : Settings) (modes : Modes) (query : Query) (own : List ℕ) → IsReducing words most settings modes query own
-      → KeepsIn modes.engine settings.source (asked_of settings modes.any_order query says own) old new after → KeepsMore words most says old new after
+      → KeepsIn modes.engine settings.source (asked_of settings modes query says own) old new after → KeepsMore words most says old new after
 
 -- What the test is asked. Of standing workers no more is said than that no call is taken back.
 abbrev pub AsksIn : Engine → Source → KeptTask → Outside → Judging → Judging → Type 0
@@ -217,8 +217,8 @@ AsksIn engine.Resume source k old before after = AsksOnlyOn k (files_told old.st
 pub data AsksMore (words : List Word) (most : ℕ) (says : Says) (old : Outside) (before after : Judging) : Type 0 where
   more_asks_nothing : after ≡ before → AsksMore words most says old before after
   more_asks : (settings : Settings) (modes : Modes) (query : Query) (own : List ℕ) → IsReducing words most settings modes query own
-      → AsksIn modes.engine settings.source (asked_of settings modes.any_order query says own) old before after
-      → ((asked_of settings modes.any_order query says own).asks ≡ false → after ≡ before) → AsksMore words most says old before after
+      → AsksIn modes.engine settings.source (asked_of settings modes query says own) old before after
+      → ((asked_of settings modes query says own).asks ≡ false → after ≡ before) → AsksMore words most says old before after
 
 -- Completeness, by an engine: with all that it needs, a run ends with 0, or for want of memory.
 abbrev pub CompletesIn : Engine → Settings → KeptTask → Outside → Outside → Judging → Judging → Bool → ℕ → Type 0
@@ -229,7 +229,7 @@ CompletesIn engine.Resume settings k old new before after has_failed status = Co
 
 abbrev pub CompletesMore : List Word → ℕ → Says → Outside → Outside → Judging → Judging → Bool → ℕ → Type 0
 CompletesMore words most says old new before after has_failed status = (settings : Settings) (modes : Modes) (query : Query) (own : List ℕ) → IsReducing words most settings modes query own
-    → CompletesIn modes.engine settings (asked_of settings modes.any_order query says own) old new before after has_failed status
+    → CompletesIn modes.engine settings (asked_of settings modes query says own) old new before after has_failed status
 
 -- what is asked of a run needs no judge: its test is a formula, or a text that the file must have
 abbrev pub IsSilent : List Word → ℕ → Type 0

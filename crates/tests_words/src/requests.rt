@@ -6,7 +6,7 @@ use std::alloc::{AllocError, Global};
 use std::process::Abort;
 
 /// What lists of words ask for where there are 32 workers, and behind it the words, each behind a bar: the engine, whether any order
-/// counts, and the settings, or `no`.
+/// counts, the label that is to be reached, and the settings, or `no`.
 const FLAGS: &str = "\
 journal 4 256 none 1000000 ltbusciprf has f.c|--journal|has:b|f.c
 journal 4 256 none 1000000 ltbusciprf has f.c|has:b|--journal|f.c
@@ -18,6 +18,24 @@ standing 4 256 none 1000000 ltbusciprf has f.c|--standing|has:b|f.c
 standing 4 256 none 1000000 ltbusciprf has f.c|has:b|--standing|f.c
 standing 4 256 none 1000000 ltbusciprf has f.c|has:b|f.c|--standing
 plain any 4 256 none 1000000 ltbusciprf has f.c|--any-order|has:b|f.c
+plain to A 4 256 none 1000000 ltbusciprf has f.c|--reached=A|has:b|f.c
+plain to A 4 256 none 1000000 ltbusciprf has f.c|has:b|f.c|--reached=A
+plain any to _a9 4 256 none 1000000 ltbusciprf has f.c|--any-order|has:b|--reached=_a9|f.c
+journal to Zz 4 256 none 1000000 ltbusciprf has f.c|--journal|has:b|--reached=Zz|f.c
+plain to A 4 256 5 1000000 ltbusciprf has f.c|--limit|--reached=A|5|has:b|f.c
+standing to A 4 256 none 1000000 ltbusciprf has gen 7 40|--reached=A|--standing|has:b|gen:7:40
+plain 4 256 none 1000000 ltbusciprf --reached=A f.c|--|--reached=A|f.c
+no|--reached=A|--reached=A|has:b|f.c
+no|--reached=A|has:b|--reached=B|f.c
+no|--reached=|has:b|f.c
+no|--reached|has:b|f.c
+no|--reached|A|has:b|f.c
+no|--reached=9a|has:b|f.c
+no|--reached=a-b|has:b|f.c
+no|--reached=a |has:b|f.c
+no|--Reached=A|has:b|f.c
+no|--replay|a.log|--reached=A|f.c
+no|--reached=A|--replay|a.log|f.c
 plain any 4 256 none 1000000 ltbusciprf has f.c|has:b|--any-order|f.c
 plain any 4 256 none 1000000 ltbusciprf has f.c|has:b|f.c|--any-order
 plain 4 256 none 1000000 ltbusciprf has f.c|has:b|f.c
@@ -155,11 +173,18 @@ fn engine_word(engine: Engine) -> &'static str {
     }
 }
 
-fn tell_modes(told: &mut String, modes: Modes) -> Result<(), AllocError> {
+fn tell_modes(told: &mut String, modes: &Modes) -> Result<(), AllocError> {
     told.push_str(engine_word(modes.engine))?;
     told.push(' ')?;
     if modes.any_order {
         told.push_str("any ")?;
+    }
+    if let Some(name) = &modes.reached {
+        told.push_str("to ")?;
+        for byte in name.as_slice() {
+            told.push(char::from(*byte))?;
+        }
+        told.push(' ')?;
     }
     Ok(())
 }
@@ -174,7 +199,7 @@ fn told(alloc: Global, request: &Request) -> Result<String, AllocError> {
     let mut told = String::new(alloc);
     match request {
         Request::Reduction(settings, modes) => {
-            tell_modes(&mut told, *modes)?;
+            tell_modes(&mut told, modes)?;
             tell_settings(&mut told, settings)?;
         }
         Request::Replay(found) => tell_replay(&mut told, found)?,

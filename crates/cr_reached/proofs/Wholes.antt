@@ -1,0 +1,54 @@
+-- Which nodes are marked with all that their own evaluation has.
+use Rattle.std.proofs.Common.{◌≡◌, ◌↔◌, refl, sym, ◌∙◌, ap, subst, arith, length-append}
+use Rattle.std.specs.Prelude.{ℕ, zero, suc, ◌+◌, ◌<◌, ◌≤◌, nat_lt, Bool, true, false, ◌&&◌, Option, Some, None, List, [], ◌∷◌, ◌++◌, length, slice_get, take}
+use Rattle.std.specs.List.{list_all}
+use Rattle.std.proofs.lemmas.Bool.{and_parts, and_from, ltb-true, ltb-false}
+use Rattle.std.proofs.lemmas.List.{get_or_append_left, get_or_push}
+use Rattle.cr_meaning.specs.World.{Program}
+use Rattle.cr_meaning.specs.declared.op.Op.{Op}
+use Rattle.cr_reached.specs.Own.{AreAllSet, AreWhole, IsOwn, IsWhole, is_set, itself, own_of, within}
+
+all_at : (column : List Bool) (nodes : List ℕ) → list_all (is_set column) nodes ≡ true → (place node : ℕ) → slice_get nodes place ≡ Some node → is_set column node ≡ true
+all_at column [] all place node is = absurd (cc is)
+all_at column (one ∷ nodes) all zero node is =
+    let same : one ≡ node = cc in subst (λ n. is_set column n ≡ true) same (and_parts (is_set column one) (list_all (is_set column) nodes) all).0
+all_at column (one ∷ nodes) all (suc place) node is = all_at column nodes (and_parts (is_set column one) (list_all (is_set column) nodes) all).1 place node is
+
+all_from : (column : List Bool) (nodes : List ℕ) → ((place node : ℕ) → slice_get nodes place ≡ Some node → is_set column node ≡ true) → list_all (is_set column) nodes ≡ true
+all_from column [] each = refl
+all_from column (one ∷ nodes) each =
+    and_from (is_set column one) (list_all (is_set column) nodes) (each 0 one refl) (all_from column nodes (λ place node is. each (suc place) node is))
+
+-- what an operation's own evaluation has is below it, so its mark is known by theirs
+module _ (p : Program) (began whole : List Bool) (op : Op) (own : Bool) (h : AreWhole p began whole) (at : slice_get p.ops (length whole) ≡ Some op) (all : AreAllSet whole (own_of op) own) where
+  to_whole : (is_set began (length whole) && own) ≡ true → IsWhole p began (length whole)
+  to_whole both node (itself same) = subst (λ n. is_set began n ≡ true) (sym same) (and_parts (is_set began (length whole)) own both).0
+  to_whole both node (within {part = part} {place = place} {op = other} is part_is more) =
+      let both_are : Some op ≡ Some other = sym at ∙ is in
+      let same : op ≡ other = cc in
+      let there : slice_get (own_of op) place ≡ Some part = subst (λ o. slice_get (own_of o) place ≡ Some part) (sym same) part_is in
+      let set = all_at whole (own_of op) (sym all.is ∙ (and_parts (is_set began (length whole)) own both).1) place part there in
+      (h part (all.below place part there)).0 set node more
+
+  from_whole : IsWhole p began (length whole) → (is_set began (length whole) && own) ≡ true
+  from_whole it = and_from (is_set began (length whole)) own (it (length whole) (itself refl))
+      (all.is ∙ all_from whole (own_of op) (λ place node is. (h node (all.below place node is)).1 (λ other more. it other (within at is more))))
+
+  pub one_more : AreWhole p began (whole ++ (is_set began (length whole) && own) ∷ [])
+  one_more node few = by (nat_lt node (length whole)) refl
+    where
+      last : Bool
+      last = is_set began (length whole) && own
+
+      by : (t : Bool) → nat_lt node (length whole) ≡ t → (is_set (whole ++ last ∷ []) node ≡ true) ↔ IsWhole p began node
+      by true e =
+          let same : is_set (whole ++ last ∷ []) node ≡ is_set whole node = get_or_append_left whole (last ∷ []) false node (ltb-true node (length whole) e) in
+          let it = h node (ltb-true node (length whole) e) in (λ set. it.0 (sym same ∙ set), λ full. same ∙ it.1 full)
+      by false e =
+          let past = ltb-false node (length whole) e in
+          let count = length-append whole (last ∷ []) in
+          let here : length whole ≡ node = omega (arith, past, few, count) in
+          let same : is_set (whole ++ last ∷ []) node ≡ last = get_or_push whole last false node here in (
+            λ set. subst (IsWhole p began) here (to_whole (sym same ∙ set)),
+            λ full. same ∙ from_whole (subst (IsWhole p began) (sym here) full),
+          )

@@ -1,0 +1,46 @@
+// The watch.
+ghost use Rattle.std.specs.Prelude.{◌≡◌, [], IfOk};
+ghost use Rattle.cr_meaning.specs.World.{Program};
+ghost use Rattle.cr_reached.specs.Evaluated.{KnowsBegun};
+
+use cr_exec::Watch;
+use cr_footprint::{Foot, NoMemory};
+use std::alloc::{AllocError, Global};
+
+/// Sees which nodes are reached.
+#[derive(Drop)]
+pub(crate) struct ReachWatch {
+    /// For each node whether it has begun.
+    pub(crate) began: Vec<bool>,
+}
+
+impl ReachWatch {
+    /// Nothing has begun.
+    pub(crate) fn new(alloc: Global, nodes: usize) -> Result<ReachWatch, AllocError>
+        ensures { IfOk result (λ watch. (p : Program) → KnowsBegun watch p []) }
+    {
+        Ok(ReachWatch {
+            began: vec![in alloc; false; nodes]?,
+        })
+    }
+}
+
+impl Watch for ReachWatch {
+    ghost knows = { KnowsBegun };
+
+    #[inline]
+    fn begin(&mut self, node: u32) -> Result<(), NoMemory> {
+        let at = node as usize;
+        if at < self.began.len() {
+            self.began[at] = true;
+            Ok(())
+        } else {
+            Err(AllocError)
+        }
+    }
+
+    #[inline]
+    fn end(&mut self, _node: u32, _foot: &Foot) -> Result<(), NoMemory> {
+        Ok(())
+    }
+}

@@ -1,0 +1,105 @@
+// Which nodes are evaluated whole.
+ghost use Rattle.std.specs.Prelude.{◌≡◌, IfOk, IfSome, drop, take};
+ghost use Rattle.cr_eval.specs.Table.{program_of};
+ghost use Rattle.cr_reached.specs.Own.{AreAllSet, AreWhole, given, is_set, own_of};
+
+use cr_eval::Table;
+use cr_meaning::{Op, Work};
+use std::alloc::{AllocError, Global};
+
+fn is_set(column: &[bool], node: usize) -> bool
+    ensures { result ≡ is_set column.now node }
+{
+    match column.get(node) {
+        Some(mark) => *mark,
+        None => false,
+    }
+}
+
+/// Whether all of some nodes are marked, where each of them has a mark.
+fn are_all_set(column: &[bool], nodes: &[u32]) -> Option<bool>
+    ensures { IfSome result (AreAllSet column.now nodes.now) }
+{
+    let mut all = true;
+    for node in nodes {
+        match column.get(*node as usize) {
+            Some(true) => {}
+            Some(false) => all = false,
+            None => return None,
+        }
+    }
+    Some(all)
+}
+
+/// The same of a node that may be there.
+fn is_given_set(column: &[bool], node: Option<u32>) -> Option<bool>
+    ensures { IfSome result (AreAllSet column.now (given node)) }
+{
+    match node {
+        Some(node) => are_all_set(column, &[node]),
+        None => Some(true),
+    }
+}
+
+fn first_of(parts: &[u32]) -> &[u32]
+    ensures { result.now ≡ take 1 parts.now }
+{
+    match parts.get(..1) {
+        Some(first) => first,
+        None => parts,
+    }
+}
+
+fn rest_of(parts: &[u32]) -> &[u32]
+    ensures { result.now ≡ drop 1 parts.now }
+{
+    match parts.get(1..) {
+        Some(rest) => rest,
+        None => parts,
+    }
+}
+
+/// The same of the two clauses of a `for`.
+fn clauses_set(column: &[bool], first: Option<u32>, control: Option<u32>) -> Option<bool>
+    ensures { IfSome result (AreAllSet column.now (given first ++ given control)) }
+{
+    let begun = is_given_set(column, first)?;
+    let asked = is_given_set(column, control)?;
+    Some(begun && asked)
+}
+
+/// The same of what an operation's own evaluation has.
+fn own_set(column: &[bool], op: &Op) -> Option<bool>
+    ensures { IfSome result (AreAllSet column.now (own_of op.now)) }
+{
+    let parts = op.parts.as_slice();
+    match &op.work {
+        Work::If | Work::While | Work::Switch(_, _, _, _, _, _) => {
+            are_all_set(column, first_of(parts))
+        }
+        Work::Do => are_all_set(column, rest_of(parts)),
+        Work::For(_, first, control, _, _) => clauses_set(column, *first, *control),
+        Work::Block(_, _) => Some(true),
+        _ => are_all_set(column, parts),
+    }
+}
+
+/// For each operation whether it is marked with all that its own evaluation has. The error is want of memory, or an operand that doesn't
+/// come before its operation, as in no program of the subset.
+pub(crate) fn whole_of(
+    alloc: Global,
+    table: &Table,
+    began: &[bool],
+) -> Result<Vec<bool>, AllocError>
+    ensures { IfOk result (λ whole. AreWhole (program_of table.now) began.now whole.items × (length whole.items ≡ length table.now.ops)) }
+{
+    let mut whole = Vec::new(alloc);
+    for op in table.ops.as_slice() {
+        let Some(own) = own_set(whole.as_slice(), op) else {
+            return Err(AllocError);
+        };
+        let here = is_set(began, whole.len());
+        whole.push(here && own)?;
+    }
+    Ok(whole)
+}
