@@ -1,9 +1,11 @@
 -- Which nodes are marked with all that their own evaluation has.
 use Rattle.std.proofs.Common.{◌≡◌, ◌↔◌, refl, sym, ◌∙◌, ap, subst, arith, length-append}
-use Rattle.std.specs.Prelude.{ℕ, zero, suc, ◌+◌, ◌<◌, ◌≤◌, nat_lt, Bool, true, false, ◌&&◌, Option, Some, None, List, [], ◌∷◌, ◌++◌, length, slice_get, take}
+use Rattle.std.specs.Prelude.{ℕ, zero, suc, ◌+◌, ◌<◌, ◌≤◌, nat_lt, Bool, true, false, ◌&&◌, Option, Some, None, IfSome, List, [], ◌∷◌, ◌++◌, get_or, length, slice_get, take}
 use Rattle.std.specs.List.{list_all}
 use Rattle.std.proofs.lemmas.Bool.{and_parts, and_from, ltb-true, ltb-false}
-use Rattle.std.proofs.lemmas.List.{get_or_append_left, get_or_push}
+use Rattle.std.proofs.lemmas.List.{get_or_append_left, get_or_push, take_more}
+use Rattle.std.proofs.lemmas.List.Folds.{list_all-append}
+use Rattle.std.proofs.lemmas.Option.{get_or_from_slice_get, slice_get_within}
 use Rattle.cr_meaning.specs.World.{Program}
 use Rattle.cr_meaning.specs.declared.op.Op.{Op}
 use Rattle.cr_reached.specs.Own.{AreAllSet, AreWhole, IsOwn, IsWhole, is_set, itself, own_of, within}
@@ -18,6 +20,51 @@ all_from : (column : List Bool) (nodes : List ℕ) → ((place node : ℕ) → s
 all_from column [] each = refl
 all_from column (one ∷ nodes) each =
     and_from (is_set column one) (list_all (is_set column) nodes) (each 0 one refl) (all_from column nodes (λ place node is. each (suc place) node is))
+
+-- ---- whether all of some nodes are marked
+
+pub none_set : (column : List Bool) → AreAllSet column [] true
+none_set column = record { is = refl; below = λ place node is. absurd (cc) }
+
+pub one_set : (column : List Bool) (node : ℕ) (mark : Bool) → slice_get column node ≡ Some mark → AreAllSet column (node ∷ []) mark
+one_set column node mark is = record { is = sym (single (is_set column node) ∙ get_or_from_slice_get column node mark false is); below = below }
+  where
+    single : (b : Bool) → (b && true) ≡ b
+    single true = refl
+    single false = refl
+
+    below : (place other : ℕ) → slice_get (node ∷ []) place ≡ Some other → other < length column
+    below zero other at = let same : node ≡ other = cc in subst (λ n. n < length column) same (slice_get_within column node mark is)
+    below (suc place) other at = absurd (cc)
+
+below_both : (column : List Bool) (some more : List ℕ) → ((place node : ℕ) → slice_get some place ≡ Some node → node < length column)
+    → ((place node : ℕ) → slice_get more place ≡ Some node → node < length column) → (place node : ℕ) → slice_get (some ++ more) place ≡ Some node → node < length column
+below_both column [] more first second place node at = second place node at
+below_both column (one ∷ some) more first second zero node at = first zero node at
+below_both column (one ∷ some) more first second (suc place) node at = below_both column some more (λ p n is. first (suc p) n is) second place node at
+
+pub both_set : (column : List Bool) (some more : List ℕ) (one other : Bool) → AreAllSet column some one → AreAllSet column more other → AreAllSet column (some ++ more) (one && other)
+both_set column some more one other first second = record {
+  is = ap (λ b. b && other) first.is ∙ ap (λ b. list_all (is_set column) some && b) second.is ∙ sym (list_all-append (is_set column) some more);
+  below = below_both column some more first.below second.below;
+}
+
+-- one of them more
+pub next_set : (column : List Bool) (nodes : List ℕ) (place : ℕ) (all mark : Bool) → place < length nodes → AreAllSet column (take place nodes) all
+    → slice_get column (get_or nodes place 0) ≡ Some mark → AreAllSet column (take (place + 1) nodes) (all && mark)
+next_set column nodes place all mark low before is =
+    subst (λ l. AreAllSet column l (all && mark)) (sym (take_more nodes place 0 low))
+    (both_set column (take place nodes) (get_or nodes place 0 ∷ []) all mark before (one_set column (get_or nodes place 0) mark is))
+
+-- an answer on nodes is one on the same nodes
+pub on_same : (column : List Bool) (nodes others : List ℕ) (r : Option Bool) → nodes ≡ others → IfSome r (AreAllSet column nodes) → IfSome r (AreAllSet column others)
+on_same column nodes others r same h = subst (λ l. IfSome r (AreAllSet column l)) same h
+
+pub one_given : (column : List Bool) (node : ℕ) (r : Option Bool) → r ≡ slice_get column node → IfSome r (AreAllSet column (node ∷ []))
+one_given column node None is = tt
+one_given column node (Some mark) is = one_set column node mark (sym is)
+
+-- ---- one operation more
 
 -- what an operation's own evaluation has is below it, so its mark is known by theirs
 module _ (p : Program) (began whole : List Bool) (op : Op) (own : Bool) (h : AreWhole p began whole) (at : slice_get p.ops (length whole) ≡ Some op) (all : AreAllSet whole (own_of op) own) where

@@ -1,20 +1,13 @@
 // The labels of a unit.
-ghost use Rattle.std.specs.Prelude.{◌≡◌, ◌≤◌, ℕ, false, true, length, slice_get};
-ghost use Rattle.cr_meaning_operations.specs.Operations.{is_mark, spelling_if};
+ghost use Rattle.std.specs.Prelude.{◌≡◌, ◌&&◌, ℕ, false, true, slice_get};
+ghost use Rattle.cr_meaning_operations.specs.Operations.{is_mark};
 ghost use Rattle.cr_reached.specs.Own.{is_set};
-ghost use Rattle.cr_reached.specs.Reached.{IsLabel, first_label, is_named};
+ghost use Rattle.cr_reached.specs.Reached.{IsLabel, first_label, is_named, is_named_if};
+ghost use Rattle.cr_syntax.specs.Words.{AreSpans};
 
-use cr_syntax::{Kind, Node};
+use crate::whole::is_set;
+use cr_syntax::{Kind, Node, spelling_at};
 use cr_typed::Typed;
-
-fn spelling(typed: &Typed, token: u32) -> &[u8]
-    ensures { result.now ≡ spelling_if typed.now.file (slice_get typed.now.tokens token) }
-{
-    match typed.tokens.as_slice().get(token as usize) {
-        Some(token) => token.spelling(typed.file.as_slice()),
-        None => &[],
-    }
-}
 
 fn is_label(kind: Kind) -> bool
     ensures { result ≡ is_mark kind }
@@ -23,31 +16,54 @@ fn is_label(kind: Kind) -> bool
 }
 
 fn is_named(typed: &Typed, name: &[u8], node: &Node) -> bool
+    requires { AreSpans typed.now.file typed.now.tokens }
     ensures { result ≡ is_named typed.now name.now node.now }
 {
-    is_label(node.kind) && spelling(typed, node.first) == name
+    let tokens = typed.tokens.as_slice();
+    let spelling = spelling_at(typed.file.as_slice(), tokens, node.first as usize);
+    is_label(node.kind) && spelling == name
+}
+
+/// Whether a node is a label of a name.
+fn is_named_at(typed: &Typed, name: &[u8], node: usize) -> bool
+    requires { AreSpans typed.now.file typed.now.tokens }
+    ensures { result ≡ is_named_if typed.now name.now (slice_get typed.now.nodes node) }
+{
+    match typed.nodes.as_slice().get(node) {
+        Some(node) => is_named(typed, name, node),
+        None => false,
+    }
 }
 
 /// The first label of a name; where there is none, the number of nodes.
 pub(crate) fn first_label(typed: &Typed, name: &[u8]) -> usize
+    requires { AreSpans typed.now.file typed.now.tokens }
     ensures { result ≡ first_label typed.now name.now }
 {
-    let nodes = typed.nodes.as_slice();
-    nodes
-        .iter()
-        .position(|node| is_named(typed, name, node))
-        .unwrap_or(nodes.len())
+    let count = typed.nodes.len();
+    for node in 0..count {
+        if is_named_at(typed, name, node) {
+            return node;
+        }
+    }
+    count
 }
 
-/// Whether one of the labels of a name is marked. There is a mark for each node.
+fn is_set_label(typed: &Typed, name: &[u8], column: &[bool], node: usize) -> bool
+    requires { AreSpans typed.now.file typed.now.tokens }
+    ensures { result ≡ (is_set column.now node && is_named_if typed.now name.now (slice_get typed.now.nodes node)) }
+{
+    is_set(column, node) && is_named_at(typed, name, node)
+}
+
+/// Whether one of the labels of a name is marked.
 pub(crate) fn is_one_set(typed: &Typed, name: &[u8], column: &[bool]) -> bool
-    requires { length typed.now.nodes ≤ length column.now }
+    requires { AreSpans typed.now.file typed.now.tokens }
     ensures some { result ≡ true → (label : ℕ) × IsLabel typed.now name.now label × (is_set column.now label ≡ true) }
     ensures none { result ≡ false → (label : ℕ) → IsLabel typed.now name.now label → is_set column.now label ≡ true → ⊥ }
 {
-    let nodes = typed.nodes.as_slice();
-    for at in 0..nodes.len() {
-        if column[at] && is_named(typed, name, &nodes[at]) {
+    for node in 0..column.len() {
+        if is_set_label(typed, name, column, node) {
             return true;
         }
     }

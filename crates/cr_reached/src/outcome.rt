@@ -8,6 +8,7 @@ ghost use Rattle.cr_meaning_operations.specs.Operations.{program_of};
 ghost use Rattle.cr_order.specs.Orders.{outer_of};
 ghost use Rattle.cr_reached.specs.Own.{IsWhole};
 ghost use Rattle.cr_reached.specs.Reached.{IsJudgedIf, IsLabel, TellsReached};
+ghost use Rattle.cr_syntax.specs.Words.{AreSpans};
 ghost use Rattle.cr_typed.specs.Typed.{IsTyped};
 
 use crate::labels::is_one_set;
@@ -28,6 +29,7 @@ fn is_reached(
     name: &[u8],
     began: &[bool],
 ) -> Option<bool>
+    requires { AreSpans typed.now.file typed.now.tokens }
     ensures some { IfSome result (λ found. found ≡ true → (label : ℕ) × IsLabel typed.now name.now label × IsWhole (program_in table.now) began.now label) }
     ensures none { IfSome result (λ found. found ≡ false → (label : ℕ) → IsLabel typed.now name.now label → IsWhole (program_in table.now) began.now label → ⊥) }
 {

@@ -1,5 +1,5 @@
 // Which nodes are evaluated whole.
-ghost use Rattle.std.specs.Prelude.{◌≡◌, IfOk, IfSome, drop, take};
+ghost use Rattle.std.specs.Prelude.{◌≡◌, ◌&&◌, ◌++◌, IfOk, IfSome, drop, length, slice_get, take};
 ghost use Rattle.cr_eval.specs.Table.{program_of};
 ghost use Rattle.cr_reached.specs.Own.{AreAllSet, AreWhole, given, is_set, own_of};
 
@@ -7,7 +7,8 @@ use cr_eval::Table;
 use cr_meaning::{Op, Work};
 use std::alloc::{AllocError, Global};
 
-fn is_set(column: &[bool], node: usize) -> bool
+/// Whether a node is marked.
+pub(crate) fn is_set(column: &[bool], node: usize) -> bool
     ensures { result ≡ is_set column.now node }
 {
     match column.get(node) {
@@ -16,17 +17,29 @@ fn is_set(column: &[bool], node: usize) -> bool
     }
 }
 
+fn mark_at(column: &[bool], node: u32) -> Option<bool>
+    ensures { result ≡ slice_get column.now node }
+{
+    match column.get(node as usize) {
+        Some(mark) => Some(*mark),
+        None => None,
+    }
+}
+
+fn both(one: bool, other: bool) -> bool
+    ensures { result ≡ (one && other) }
+{
+    one && other
+}
+
 /// Whether all of some nodes are marked, where each of them has a mark.
 fn are_all_set(column: &[bool], nodes: &[u32]) -> Option<bool>
     ensures { IfSome result (AreAllSet column.now nodes.now) }
 {
     let mut all = true;
     for node in nodes {
-        match column.get(*node as usize) {
-            Some(true) => {}
-            Some(false) => all = false,
-            None => return None,
-        }
+        let mark = mark_at(column, *node)?;
+        all = both(all, mark);
     }
     Some(all)
 }
@@ -36,7 +49,7 @@ fn is_given_set(column: &[bool], node: Option<u32>) -> Option<bool>
     ensures { IfSome result (AreAllSet column.now (given node)) }
 {
     match node {
-        Some(node) => are_all_set(column, &[node]),
+        Some(node) => mark_at(column, node),
         None => Some(true),
     }
 }
@@ -44,19 +57,13 @@ fn is_given_set(column: &[bool], node: Option<u32>) -> Option<bool>
 fn first_of(parts: &[u32]) -> &[u32]
     ensures { result.now ≡ take 1 parts.now }
 {
-    match parts.get(..1) {
-        Some(first) => first,
-        None => parts,
-    }
+    &parts[..parts.len().min(1)]
 }
 
 fn rest_of(parts: &[u32]) -> &[u32]
     ensures { result.now ≡ drop 1 parts.now }
 {
-    match parts.get(1..) {
-        Some(rest) => rest,
-        None => parts,
-    }
+    &parts[parts.len().min(1)..]
 }
 
 /// The same of the two clauses of a `for`.
@@ -65,7 +72,7 @@ fn clauses_set(column: &[bool], first: Option<u32>, control: Option<u32>) -> Opt
 {
     let begun = is_given_set(column, first)?;
     let asked = is_given_set(column, control)?;
-    Some(begun && asked)
+    Some(both(begun, asked))
 }
 
 /// The same of what an operation's own evaluation has.
@@ -74,9 +81,9 @@ fn own_set(column: &[bool], op: &Op) -> Option<bool>
 {
     let parts = op.parts.as_slice();
     match &op.work {
-        Work::If | Work::While | Work::Switch(_, _, _, _, _, _) => {
-            are_all_set(column, first_of(parts))
-        }
+        Work::If => are_all_set(column, first_of(parts)),
+        Work::While => are_all_set(column, first_of(parts)),
+        Work::Switch(_, _, _, _, _, _) => are_all_set(column, first_of(parts)),
         Work::Do => are_all_set(column, rest_of(parts)),
         Work::For(_, first, control, _, _) => clauses_set(column, *first, *control),
         Work::Block(_, _) => Some(true),
@@ -99,7 +106,7 @@ pub(crate) fn whole_of(
             return Err(AllocError);
         };
         let here = is_set(began, whole.len());
-        whole.push(here && own)?;
+        whole.push(both(here, own))?;
     }
     Ok(whole)
 }
