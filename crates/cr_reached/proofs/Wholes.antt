@@ -7,8 +7,13 @@ use Rattle.std.proofs.lemmas.List.{get_or_append_left, get_or_push, take_more}
 use Rattle.std.proofs.lemmas.List.Folds.{list_all-append}
 use Rattle.std.proofs.lemmas.Option.{get_or_from_slice_get, slice_get_within}
 use Rattle.cr_meaning.specs.World.{Program}
+use Rattle.cr_ints.specs.declared.kind.IntKind.{IntKind}
+use Rattle.cr_meaning.specs.declared.op.Case.{Case}
 use Rattle.cr_meaning.specs.declared.op.Op.{Op}
-use Rattle.cr_reached.specs.Own.{AreAllSet, AreWhole, IsOwn, IsWhole, is_set, itself, own_of, within}
+use Rattle.cr_meaning.specs.declared.op.Target.{Target}
+use Rattle.cr_meaning.specs.declared.op.Work.{Work}
+use Rattle.cr_meaning.specs.declared.op.Work.TheVariants as work
+use Rattle.cr_reached.specs.Own.{AreAllSet, AreWhole, IsOwn, IsWhole, is_set, itself, own_by, own_of, within}
 
 all_at : (column : List Bool) (nodes : List ℕ) → list_all (is_set column) nodes ≡ true → (place node : ℕ) → slice_get nodes place ≡ Some node → is_set column node ≡ true
 all_at column [] all place node is = absurd (cc is)
@@ -63,6 +68,19 @@ on_same column nodes others r same h = subst (λ l. IfSome r (AreAllSet column l
 pub one_given : (column : List Bool) (node : ℕ) (r : Option Bool) → r ≡ slice_get column node → IfSome r (AreAllSet column (node ∷ []))
 one_given column node None is = tt
 one_given column node (Some mark) is = one_set column node mark (sym is)
+
+-- what is none of these has all of its operands
+pub own_other : (w : Work) (parts : List ℕ) → (w ≡ work.If → ⊥) → (w ≡ work.While → ⊥)
+    → ((kind : IntKind) (body : ℕ) (objects : List ℕ) (cases : List Case) (other : Option ℕ) (labels : List Target) → w ≡ work.Switch kind body objects cases other labels → ⊥)
+    → (w ≡ work.Do → ⊥) → ((objects : List ℕ) (first control step : Option ℕ) (body : ℕ) → w ≡ work.For objects first control step body → ⊥)
+    → ((objects : List ℕ) (labels : List Target) → w ≡ work.Block objects labels → ⊥) → parts ≡ own_by w parts
+own_other work.If parts no_if no_while no_switch no_do no_for no_block = absurd (no_if refl)
+own_other work.While parts no_if no_while no_switch no_do no_for no_block = absurd (no_while refl)
+own_other (work.Switch kind body objects cases other labels) parts no_if no_while no_switch no_do no_for no_block = absurd (no_switch kind body objects cases other labels refl)
+own_other work.Do parts no_if no_while no_switch no_do no_for no_block = absurd (no_do refl)
+own_other (work.For objects first control step body) parts no_if no_while no_switch no_do no_for no_block = absurd (no_for objects first control step body refl)
+own_other (work.Block objects labels) parts no_if no_while no_switch no_do no_for no_block = absurd (no_block objects labels refl)
+own_other other parts no_if no_while no_switch no_do no_for no_block = refl
 
 -- ---- one operation more
 

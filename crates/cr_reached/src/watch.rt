@@ -1,5 +1,5 @@
 // The watch.
-ghost use Rattle.std.specs.Prelude.{◌≡◌, [], IfOk};
+ghost use Rattle.std.specs.Prelude.{◌≡◌, ◌<◌, [], IfOk, false, length, replicate, slice_set, true};
 ghost use Rattle.cr_meaning.specs.World.{Program};
 ghost use Rattle.cr_reached.specs.Evaluated.{KnowsBegun};
 
@@ -14,14 +14,26 @@ pub(crate) struct ReachWatch {
     pub(crate) began: Vec<bool>,
 }
 
+fn unmarked(alloc: Global, nodes: usize) -> Result<Vec<bool>, AllocError>
+    ensures { IfOk result (λ column. column.items ≡ replicate nodes false) }
+{
+    vec![in alloc; false; nodes]
+}
+
+fn mark(column: &mut Vec<bool>, at: usize)
+    requires { at < length column.old.items }
+    ensures { column.new.items ≡ slice_set column.old.items at true }
+{
+    column[at] = true;
+}
+
 impl ReachWatch {
     /// Nothing has begun.
     pub(crate) fn new(alloc: Global, nodes: usize) -> Result<ReachWatch, AllocError>
         ensures { IfOk result (λ watch. (p : Program) → KnowsBegun watch p []) }
     {
-        Ok(ReachWatch {
-            began: vec![in alloc; false; nodes]?,
-        })
+        let began = unmarked(alloc, nodes)?;
+        Ok(ReachWatch { began })
     }
 }
 
@@ -32,7 +44,7 @@ impl Watch for ReachWatch {
     fn begin(&mut self, node: u32) -> Result<(), NoMemory> {
         let at = node as usize;
         if at < self.began.len() {
-            self.began[at] = true;
+            mark(&mut self.began, at);
             Ok(())
         } else {
             Err(AllocError)

@@ -66,6 +66,20 @@ fn rest_of(parts: &[u32]) -> &[u32]
     &parts[parts.len().min(1)..]
 }
 
+/// The same of the first one.
+fn first_set(column: &[bool], parts: &[u32]) -> Option<bool>
+    ensures { IfSome result (AreAllSet column.now (take 1 parts.now)) }
+{
+    are_all_set(column, first_of(parts))
+}
+
+/// The same of those behind it.
+fn rest_set(column: &[bool], parts: &[u32]) -> Option<bool>
+    ensures { IfSome result (AreAllSet column.now (drop 1 parts.now)) }
+{
+    are_all_set(column, rest_of(parts))
+}
+
 /// The same of the two clauses of a `for`.
 fn clauses_set(column: &[bool], first: Option<u32>, control: Option<u32>) -> Option<bool>
     ensures { IfSome result (AreAllSet column.now (given first ++ given control)) }
@@ -81,10 +95,10 @@ fn own_set(column: &[bool], op: &Op) -> Option<bool>
 {
     let parts = op.parts.as_slice();
     match &op.work {
-        Work::If => are_all_set(column, first_of(parts)),
-        Work::While => are_all_set(column, first_of(parts)),
-        Work::Switch(_, _, _, _, _, _) => are_all_set(column, first_of(parts)),
-        Work::Do => are_all_set(column, rest_of(parts)),
+        Work::If => first_set(column, parts),
+        Work::While => first_set(column, parts),
+        Work::Switch(_, _, _, _, _, _) => first_set(column, parts),
+        Work::Do => rest_set(column, parts),
         Work::For(_, first, control, _, _) => clauses_set(column, *first, *control),
         Work::Block(_, _) => Some(true),
         _ => are_all_set(column, parts),

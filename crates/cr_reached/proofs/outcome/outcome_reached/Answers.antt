@@ -12,6 +12,9 @@ use Rattle.cr_reached.specs.Reached.{IsJudgedIf}
 use Rattle.cr_reached.proofs.Labels.{tells_by}
 use Rattle.cr_reached.proofs.outcome.outcome_reached.Goals as goal
 
+pub is_reached-requires : goal.is_reached-requires
+is_reached-requires g c = c.requires.typed.spans
+
 pub returns-in-Some-clause-comes : goal.returns-in-Some-clause-comes
 returns-in-Some-clause-comes g c = λ come.
     means_the_same (program_in c.in-Ok.table) (program_of c.args.typed.now c.args.limits) c.run_reached-run.result.0 c.in-Ok.ensures (c.run_reached-run.ensures.meant come)

@@ -10,6 +10,9 @@ use Rattle.cr_reached.specs.Reached.{ReachRules, ended_reached, first_label}
 use Rattle.cr_reached.proofs.Reaching.{reach_came, reach_looks, reach_rules}
 use Rattle.cr_reached.proofs.law.ReachedLawRunLaw.ruled_on_run.Goals as goal
 
+pub first_label-requires : goal.first_label-requires
+first_label-requires g c = c.requires.unit.checked.by.fits.spans
+
 pub outcome_reached-requires-clause-typed : goal.outcome_reached-requires-clause-typed
 outcome_reached-requires-clause-typed g c = c.requires.unit.checked.by.fits
 
