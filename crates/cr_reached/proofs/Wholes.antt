@@ -117,3 +117,9 @@ module _ (p : Program) (began whole : List Bool) (op : Op) (own : Bool) (h : Are
             λ set. subst (IsWhole p began) here (to_whole (sym same ∙ set)),
             λ full. same ∙ from_whole (subst (IsWhole p began) (sym here) full),
           )
+
+pub whole_more : (p : Program) (began whole now : List Bool) (op : Op) (own last : Bool) (count : ℕ) → AreWhole p began whole → slice_get p.ops (length whole) ≡ Some op → AreAllSet whole (own_of op) own
+    → last ≡ (is_set began count && own) → count ≡ length whole → now ≡ whole ++ last ∷ [] → AreWhole p began now
+whole_more p began whole now op own last count h at all last_is count_is is =
+    let here : last ≡ (is_set began (length whole) && own) = last_is ∙ ap (λ n. is_set began n && own) count_is in
+    subst (AreWhole p began) (sym (is ∙ ap (λ b. whole ++ b ∷ []) here)) (one_more p began whole op own h at all)
