@@ -13,8 +13,8 @@ use Rattle.cr_reached.proofs.law.ReachedLawRunLaw.ruled_on_run.Goals as goal
 pub first_label-requires : goal.first_label-requires
 first_label-requires g c = c.requires.unit.checked.by.fits.spans
 
-pub outcome_reached-requires-clause-typed : goal.outcome_reached-requires-clause-typed
-outcome_reached-requires-clause-typed g c = c.requires.unit.checked.by.fits
+pub outcome_reached-run-requires-clause-typed : goal.outcome_reached-run-requires-clause-typed
+outcome_reached-run-requires-clause-typed g c = c.requires.unit.checked.by.fits
 
 pub run_ruling-ruling-requires : goal.run_ruling-ruling-requires
 run_ruling-ruling-requires g c = c.requires.unit.tokenizes.short
@@ -23,7 +23,7 @@ pub leave_run-requires : goal.leave_run-requires
 leave_run-requires g c =
     let limits = c.args.self.now.limits in
     let file = c.args.file.now in
-    let found = c.outcome_reached in
+    let found = c.outcome_reached-run in
     let ended = c.ended_reached-run.ensures ∙ ap (λ o. ended_reached o found.result.2 c.in-Ok.label) c.ended_in_order.ensures in
     subst (CameTo limits file) (sym ended) (reach_came limits file c.args.typed.now c.requires.unit c.in-Ok.label found.result.0 found.result.1 found.result.2 found.ensures.comes)
 
@@ -32,7 +32,7 @@ returns-clause-rules g c =
     let law = c.args.self.now in
     let file = c.args.file.now in
     let typed = c.args.typed.now in
-    let found = c.outcome_reached in
+    let found = c.outcome_reached-run in
     let raised = g.S.Stop.raised found.new.stop in
     let ended = c.ended_reached-run.ensures ∙ ap (λ o. ended_reached o found.result.2 c.in-Ok.label) c.ended_in_order.ensures in
     let F : Ruling → Type 0 = λ r. ReachRules law.any_order law.limits law.name.now file raised r in
@@ -46,7 +46,7 @@ returns-clause-looks g c =
     let limits = c.args.self.now.limits in
     let file = c.args.file.now in
     let typed = c.args.typed.now in
-    let found = c.outcome_reached in
+    let found = c.outcome_reached-run in
     let before = g.S.Stop.looks c.args.stop.now in
     let after = g.S.Stop.looks found.new.stop in
     let ended = c.ended_reached-run.ensures ∙ ap (λ o. ended_reached o found.result.2 c.in-Ok.label) c.ended_in_order.ensures in
