@@ -1,6 +1,7 @@
 -- What words ask for: one thing at most, and a plain reduction where no flag stands.
 use Rattle.std.proofs.Common.{◌≡◌, ◌↔◌, ℕ, Bool, true, false, Option, None, Some, List, ◌∷◌, codes, inl, inr, refl, sym, ap, ap₂, ◌∙◌, subst, arith}
-use Rattle.cr_main_words.specs.Flags.{GivesLabel, GivesModes, flag_words, is_journal, is_resume, is_standing, once_if, plain_modes, rest_of, times}
+use Rattle.std.proofs.lemmas.Bool.{false≢true}
+use Rattle.cr_main_words.specs.Flags.{GivesLabel, GivesModes, first_label, flag_words, is_identifier, is_journal, is_resume, is_standing, label_count, once_if, plain_modes, rest_of, times}
 use Rattle.cr_main_words.specs.Giving.{HasSettings}
 use Rattle.cr_main_words.specs.Laws.{SameSource}
 use Rattle.cr_main_words.specs.RequestLaws.{HasNoFlag, SameRequest}
@@ -50,7 +51,27 @@ one_label : (words : List Word) (a b : Option Word) → GivesLabel words a → G
 one_label words None None first second = refl
 one_label words None (Some name) first second = absurd (omega (arith, first, second.0))
 one_label words (Some name) None first second = absurd (omega (arith, first.0, second))
-one_label words (Some name) (Some other) first second = sym first.1 ∙ second.1
+one_label words (Some name) (Some other) first second = sym first.1.0 ∙ second.1.0
+
+-- ---- words that give no label
+
+pub no_label : (words : List Word) → label_count words ≡ 1 → first_label words ≡ None → (label : Option Word) → GivesLabel words label → ⊥
+no_label words one none None given = omega (arith, one, given)
+no_label words one none (Some name) given = let both : Some name ≡ None = sym given.1.0 ∙ none in absurd (cc)
+
+pub unread_label : (words : List Word) (name : Word) → label_count words ≡ 1 → first_label words ≡ Some name → is_identifier name ≡ false → (label : Option Word) → GivesLabel words label → ⊥
+unread_label words name one found unread None given = omega (arith, one, given)
+unread_label words name one found unread (Some other) given =
+    let both : Some name ≡ Some other = sym found ∙ given.1.0 in
+    let same : name ≡ other = cc in false≢true (sym unread ∙ ap is_identifier same ∙ given.1.1)
+
+pub many_labels : (words : List Word) → (label_count words ≡ 0 → ⊥) → (label_count words ≡ 1 → ⊥) → (label : Option Word) → GivesLabel words label → ⊥
+many_labels words some more None given = some given
+many_labels words some more (Some name) given = more given.0
+
+-- and that give one
+pub read_label : (words : List Word) (name row : Word) → label_count words ≡ 1 → first_label words ≡ Some name → is_identifier name ≡ true → row ≡ name → GivesLabel words (Some row)
+read_label words name row one found read is = (one, found ∙ ap Some (sym is), ap is_identifier is ∙ read)
 
 pub one_modes : (words : List Word) (a b : Modes) → GivesModes words a → GivesModes words b → a ≡ b
 one_modes words a b first second =

@@ -1,12 +1,12 @@
 -- The words before the first --, and those without the flags.
-use Rattle.std.proofs.Common.{◌≡◌, ◌+◌, ◌||◌, ℕ, Bool, true, false, not, List, [], ◌∷◌, ◌++◌, codes, cond, drop, filter, length, map, nat_lt, take, slice_get, Option, Some, None, String, string_bytes, unwrap_or, inl, inr, refl, sym, ap, ◌∙◌, subst, arith}
+use Rattle.std.proofs.Common.{◌≡◌, ◌+◌, ◌||◌, ℕ, Bool, true, false, not, List, [], ◌∷◌, ◌++◌, codes, cond, drop, filter, length, map, nat_lt, take, slice_get, get_or, ◌<◌, ◌≤◌, Option, Some, None, String, string_bytes, unwrap_or, inl, inr, refl, sym, ap, ◌∙◌, subst, arith}
 use Rattle.std.specs.List.{count_by, position, position_or_len}
 use Rattle.std.specs.Option.{option_map}
 use Rattle.std.specs.Str.{bytes_eq}
 use Rattle.std.specs.Global.{Global}
 use Rattle.std.proofs.lemmas.Bool.Decides.{nat_tests}
 use Rattle.std.proofs.lemmas.List.{drop-map, take-append-drop, take-map}
-use Rattle.std.proofs.lemmas.Option.{slice_get-map}
+use Rattle.std.proofs.lemmas.Option.{slice_get-map, slice_get_past, slice_get_read}
 use Rattle.std.proofs.lemmas.List.Sums.{prefix_len-le-length, sum_by-cons, take_while-cons}
 use Rattle.cr_main_words.specs.Flags.{flag_words, from_end, in_front, is_end, is_flag, is_labelled, first_label, label_count, rest_of, times}
 use Rattle.cr_main_words.specs.Words.{IsAmong, Said, Tells, Word, option_names, texts_of}
@@ -63,6 +63,18 @@ label_at list front at front_is at_is =
     twice : (o : Option (String Global)) → option_map (λ word. drop 10 word) (option_map string_bytes o) ≡ option_map (λ word. drop 10 (string_bytes word)) o
     twice None = refl
     twice (Some word) = refl
+
+-- what that word has behind the flag is the label
+pub label_is : (list front : List (String Global)) (at : ℕ) (word : String Global) (label : List ℕ) → in_front (texts_of list) ≡ texts_of front
+    → at ≡ position_or_len (λ word. is_labelled (string_bytes word)) front → at < length front → word ≡ get_or front at word → label ≡ drop 10 (string_bytes word)
+    → first_label (texts_of list) ≡ Some label
+label_is list front at word label front_is at_is low is behind =
+    label_at list front at front_is at_is ∙ ap (option_map (λ word. drop 10 (string_bytes word))) (slice_get_read front (length front) at word refl low is) ∙ ap Some (sym behind)
+
+-- where there is no such word there is none
+pub label_none : (list front : List (String Global)) (at : ℕ) → in_front (texts_of list) ≡ texts_of front → at ≡ position_or_len (λ word. is_labelled (string_bytes word)) front
+    → length front ≤ at → first_label (texts_of list) ≡ None
+label_none list front at front_is at_is past = label_at list front at front_is at_is ∙ ap (option_map (λ word. drop 10 (string_bytes word))) (slice_get_past front at past)
 
 -- ---- where no word is a flag
 

@@ -1,6 +1,9 @@
-use Rattle.std.proofs.Common.{sym, ◌∙◌}
+use Rattle.std.proofs.Common.{arith, sym, ◌∙◌}
 use Rattle.cr_reached.proofs.Labels.{none_set, none_set_more, one_set}
 use Rattle.cr_reached.proofs.labels.is_one_set.Goals as goal
+
+pub loop-node-init : goal.loop-node-init
+loop-node-init c = λ label low named set. absurd (omega (arith, low))
 
 pub loop-node-preserved : goal.loop-node-preserved
 loop-node-preserved c = none_set_more c.args.typed.now c.args.name.now c.args.column.now c.loop-node.node c.loop-node.invariant (sym c.is_set_label.ensures ∙ c.if-is_set_label.false)

@@ -11,7 +11,7 @@ returns-then-any_order-clause-judged g c = λ come.
     let F : Bool → Type 0 = λ b. IsJudgedIf b (program_of c.args.table.now) (around (outer_of c.args.typed.now)) c.run_in_order.result.0 c.run_in_order.result.1 in
     subst F (sym c.if-any_order.true) (c.run_in_order.ensures.judged come)
 
-pub returns-clause-judged : goal.returns-clause-judged
-returns-clause-judged g c = λ come.
+pub returns-else-any_order-clause-judged : goal.returns-else-any_order-clause-judged
+returns-else-any_order-clause-judged g c = λ come.
     let F : Bool → Type 0 = λ b. IsJudgedIf b (program_of c.args.table.now) (around (outer_of c.args.typed.now)) c.run_alone.result.0 c.run_alone.result.1 in
     subst F (sym c.if-any_order.false) c.run_alone.ensures.unjudged
