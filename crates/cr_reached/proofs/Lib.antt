@@ -1,4 +1,4 @@
 pub mod Evaluating
 pub mod Wholes
-pub mod Labels
+pub mod Labelled
 pub mod Reaching

@@ -1,5 +1,5 @@
 use Rattle.std.proofs.Common.{◌≡◌, ◌<◌, arith, length, subst, sym, ◌∙◌}
-use Rattle.cr_reached.proofs.Labels.{NoneBefore, first_is, first_none, none_more}
+use Rattle.cr_reached.proofs.Labelled.{NoneBefore, first_is, first_none, none_more}
 use Rattle.cr_reached.proofs.labels.first_label.Goals as goal
 
 pub loop-node-init : goal.loop-node-init

@@ -1,4 +1,4 @@
-use Rattle.cr_reached.proofs.Labels.{NoneBefore}
+use Rattle.cr_reached.proofs.Labelled.{NoneBefore}
 use Rattle.cr_reached.proofs.labels.first_label.Given as goal
 
 abbrev pub invariant-loop-node : goal.invariant-loop-node

@@ -1,5 +1,5 @@
 use Rattle.std.proofs.Common.{arith, sym, ◌∙◌}
-use Rattle.cr_reached.proofs.Labels.{none_set, none_set_more, one_set}
+use Rattle.cr_reached.proofs.Labelled.{none_set, none_set_more, one_set}
 use Rattle.cr_reached.proofs.labels.is_one_set.Goals as goal
 
 pub loop-node-init : goal.loop-node-init

@@ -1,4 +1,4 @@
-use Rattle.cr_reached.proofs.Labels.{NoneSetBefore}
+use Rattle.cr_reached.proofs.Labelled.{NoneSetBefore}
 use Rattle.cr_reached.proofs.labels.is_one_set.Given as goal
 
 abbrev pub invariant-loop-node : goal.invariant-loop-node

@@ -9,7 +9,7 @@ use Rattle.cr_order.specs.Orders.{outer_of}
 use Rattle.cr_reached.specs.Evaluated.{IsRunMarked}
 use Rattle.cr_reached.specs.Own.{IsWhole}
 use Rattle.cr_reached.specs.Reached.{IsJudgedIf}
-use Rattle.cr_reached.proofs.Labels.{tells_by}
+use Rattle.cr_reached.proofs.Labelled.{tells_by}
 use Rattle.cr_reached.proofs.outcome.outcome_reached.Goals as goal
 
 pub is_reached-requires : goal.is_reached-requires
