@@ -25,6 +25,7 @@ use Rattle.cr_main_task.specs.Headline.{enough_for}
 use Rattle.cr_main_task.specs.Outside.{Outside}
 use Rattle.cr_main_words.specs.Laws.{SameSettings}
 use Rattle.cr_main_words.specs.Names.{IsOwnName, name_of}
+use Rattle.cr_main_words.specs.declared.modes.Modes.{Modes}
 use Rattle.cr_main_words.specs.declared.settings.Settings.{Settings}
 use Rattle.cr_main.specs.More.{Means, word_of}
 use Rattle.cr_main.specs.Task.{Query, asked_of, asks_of, law_by, marks_of, tells_of, text_of}

@@ -30,6 +30,7 @@ use Rattle.cr_main_task.proofs.Headlines.{few_asked, not_done}
 use Rattle.cr_main_words.specs.Requests.{IsOfFile, Suits}
 use Rattle.cr_main_words.specs.declared.modes.Engine.{Engine}
 use Rattle.cr_main_words.specs.declared.modes.Engine.TheVariants as engine
+use Rattle.cr_main_words.specs.declared.modes.Modes.{Modes}
 use Rattle.cr_main_words.specs.declared.settings.Settings.{Settings}
 use Rattle.cr_main_words.specs.declared.source.Source.{Source}
 use Rattle.cr_main_words.specs.declared.source.Source.TheVariants as source

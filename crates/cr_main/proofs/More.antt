@@ -71,7 +71,7 @@ means_none a b (by_form form) same back means formula none = none form (same_spe
 
 -- a plain reduction by a test that is no formula is the run of its task
 plain_run : (settings : Settings) (query : Query) (says : Telling) (own : List ℕ) (old new : Outside) (before after : Judging) (has_failed : Bool) (status : ℕ) → Means settings.test query → (IsFormula settings.test → ⊥)
-    → RunsIn engine.Plain (asked_of settings false query says own) (marks_of settings) settings.source old new before after has_failed status
+    → RunsIn engine.Plain (asked_of settings plain_modes query says own) (marks_of settings) settings.source old new before after has_failed status
     → RunsTask (task_of settings says own) (text_of settings.source old.files) old new before after status
 plain_run settings by_test says own old new before after has_failed status means none run =
     runs_alike (task_of settings says own) (by_epochs (task_of settings says own)) (text_of settings.source old.files) old new before after status run

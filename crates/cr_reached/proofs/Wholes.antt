@@ -13,7 +13,7 @@ use Rattle.cr_meaning.specs.declared.op.Op.{Op}
 use Rattle.cr_meaning.specs.declared.op.Target.{Target}
 use Rattle.cr_meaning.specs.declared.op.Work.{Work}
 use Rattle.cr_meaning.specs.declared.op.Work.TheVariants as work
-use Rattle.cr_reached.specs.Own.{AreAllSet, AreWhole, IsOwn, IsWhole, is_set, itself, own_by, own_of, within}
+use Rattle.cr_reached.specs.Own.{AreAllSet, AreWhole, IsWhole, is_set, itself, own_by, own_of, within}
 
 all_at : (column : List Bool) (nodes : List ℕ) → list_all (is_set column) nodes ≡ true → (place node : ℕ) → slice_get nodes place ≡ Some node → is_set column node ≡ true
 all_at column [] all place node is = absurd (cc is)

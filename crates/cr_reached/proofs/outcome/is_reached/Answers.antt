@@ -1,4 +1,4 @@
-use Rattle.std.proofs.Common.{◌≡◌, ◌≤◌, Bool, List, arith, length, rules, sym, subst, true}
+use Rattle.std.proofs.Common.{◌≡◌, ◌≤◌, Bool, List, rules, sym, subst, true}
 use Rattle.cr_eval.specs.Table.{program_of as program_in}
 use Rattle.cr_reached.specs.Own.{is_set}
 use Rattle.cr_reached.proofs.Labelled.{from_whole, to_whole}

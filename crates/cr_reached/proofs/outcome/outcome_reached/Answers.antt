@@ -1,4 +1,4 @@
-use Rattle.std.proofs.Common.{◌≡◌, ap, subst, sym}
+use Rattle.std.proofs.Common.{◌≡◌, subst, sym}
 use Rattle.std.specs.Prelude.{Bool, List}
 use Rattle.cr_meaning.specs.World.{Program}
 use Rattle.cr_meaning_loose.specs.Lists.{around}

@@ -1,5 +1,5 @@
 use Rattle.std.proofs.Common.{ap, length, refl, rules, sym, subst, ◌∙◌}
-use Rattle.std.specs.Prelude.{◌≡◌, ◌&&◌, Bool, List, Some, slice_get}
+use Rattle.std.specs.Prelude.{◌≡◌, ◌&&◌, Some, slice_get}
 use Rattle.std.proofs.lemmas.Option.{slice_get_read}
 use Rattle.cr_eval.specs.Table.{program_of}
 use Rattle.cr_reached.specs.Own.{AreAllSet, own_of}

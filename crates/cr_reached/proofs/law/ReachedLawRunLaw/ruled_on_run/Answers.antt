@@ -6,7 +6,7 @@ use Rattle.cr_lawful.specs.Lawful.{run_ruling}
 use Rattle.cr_lawful.specs.Looks.{Looks}
 use Rattle.cr_lawful.specs.Runs.{CameTo}
 use Rattle.cr_order.specs.Orders.{ended_in_order}
-use Rattle.cr_reached.specs.Reached.{ReachRules, ended_reached, first_label}
+use Rattle.cr_reached.specs.Reached.{ReachRules, ended_reached}
 use Rattle.cr_reached.proofs.Reaching.{reach_came, reach_looks, reach_rules}
 use Rattle.cr_reached.proofs.law.ReachedLawRunLaw.ruled_on_run.Goals as goal
 
