@@ -1,5 +1,5 @@
 -- What words ask for: one thing at most, and a plain reduction where no flag stands.
-use Rattle.std.proofs.Common.{◌≡◌, ◌↔◌, ℕ, Bool, true, false, Option, None, Some, List, ◌∷◌, codes, inl, inr, refl, sym, ap, ap₂, ◌∙◌, subst, arith}
+use Rattle.std.proofs.Common.{◌≡◌, ◌↔◌, ℕ, Bool, true, false, Option, None, Some, List, length, [], ◌∷◌, codes, inl, inr, refl, sym, ap, ap₂, ◌∙◌, subst, arith}
 use Rattle.std.proofs.lemmas.Bool.{false≢true}
 use Rattle.cr_main_words.specs.Flags.{GivesLabel, GivesModes, first_label, flag_words, is_identifier, is_journal, is_resume, is_standing, label_count, once_if, plain_modes, rest_of, times}
 use Rattle.cr_main_words.specs.Giving.{HasSettings}
@@ -69,7 +69,12 @@ pub many_labels : (words : List Word) → (label_count words ≡ 0 → ⊥) → 
 many_labels words some more None given = some given
 many_labels words some more (Some name) given = more given.0
 
--- and that give one
+-- no bytes are no identifier
+pub no_bytes : (name : Word) → length name ≡ 0 → false ≡ is_identifier name
+no_bytes [] none = refl
+no_bytes (byte ∷ more) none = absurd (omega (arith, none))
+
+-- words that give one
 pub read_label : (words : List Word) (name row : Word) → label_count words ≡ 1 → first_label words ≡ Some name → is_identifier name ≡ true → row ≡ name → GivesLabel words (Some row)
 read_label words name row one found read is = (one, found ∙ ap Some (sym is), ap is_identifier is ∙ read)
 

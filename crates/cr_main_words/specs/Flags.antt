@@ -13,7 +13,7 @@ flag_words = codes "--journal" ∷ codes "--resume" ∷ codes "--standing" ∷ c
 
 -- a word that asks for a label begins so, and has the label behind it
 abbrev pub is_labelled : Word → Bool
-is_labelled word = bytes_eq (take 10 word) (codes "--reached=")
+is_labelled word = bytes_eq (codes "--reached=") (take 10 word)
 
 abbrev pub is_flag : Word → Bool
 is_flag word = list_any (λ flag. bytes_eq word flag) flag_words || is_labelled word

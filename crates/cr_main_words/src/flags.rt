@@ -81,7 +81,7 @@ fn is_plain_flag(word: &str) -> bool
 fn is_labelled(word: &str) -> bool
     ensures { result ≡ is_labelled word.now }
 {
-    word.as_bytes().strip_prefix(b"--reached=").is_some()
+    word.as_bytes().starts_with(b"--reached=")
 }
 
 /// How many words before the first `--` ask for a label.

@@ -1,5 +1,6 @@
 // The modes of a reduction, which flags ask for.
-ghost use Rattle.std.specs.Prelude.{◌≡◌, ◌||◌, ℕ, Bool, Err, IfOk, MatchOption, Option};
+ghost use Rattle.std.specs.Prelude.{◌≡◌, ◌∷◌, ◌||◌, ℕ, Bool, Err, IfOk, MatchOption, Option};
+ghost use Rattle.std.specs.List.{list_all};
 ghost use Rattle.cr_main_words.specs.Flags.{GivesLabel, GivesModes, is_digit, is_identifier, is_journal, is_letter, is_resume, is_standing, label_count, once_if, times};
 ghost use Rattle.cr_main_words.specs.Parts.{GivesFlags};
 ghost use Rattle.cr_main_words.specs.Words.{Word, texts_of};
@@ -105,11 +106,23 @@ fn is_inner(byte: u8) -> bool
     is_letter(byte) || (48 <= byte && byte <= 57)
 }
 
+fn are_inner(bytes: &[u8]) -> bool
+    ensures { result ≡ list_all (λ byte. is_letter byte || is_digit byte) bytes.now }
+{
+    bytes.iter().all(|byte| is_inner(*byte))
+}
+
+fn is_spelled(first: u8, more: &[u8]) -> bool
+    ensures { result ≡ is_identifier (first ∷ more.now) }
+{
+    is_letter(first) && are_inner(more)
+}
+
 fn is_identifier(name: &[u8]) -> bool
     ensures { result ≡ is_identifier name.now }
 {
     match name.split_first() {
-        Some((first, more)) => is_letter(*first) && more.iter().all(|byte| is_inner(*byte)),
+        Some((first, more)) => is_spelled(*first, more),
         None => false,
     }
 }

@@ -9,3 +9,8 @@ returns-in_default-clause-usage c = λ is modes given.
 pub returns-in_err-reached-clause-usage : goal.returns-in_err-reached-clause-usage
 returns-in_err-reached-clause-usage c = λ is modes given.
     c.in_err-reached.ensures.usage (ap Err (same_fault c.from_residual.result c.in_err-reached.field-0.0 c.from_residual.ensures.1 is)) modes.reached given.reached
+
+pub returns-clause-modes : goal.returns-clause-modes
+returns-clause-modes c =
+    let flags = c.in-Some.ensures in
+    record { journal = flags.journal; resume = flags.resume; standing = flags.standing; any_order = flags.any_order_is; reached = c.in_ok-reached.ensures.label }
