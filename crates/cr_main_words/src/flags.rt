@@ -127,7 +127,13 @@ fn labelled_place(words: &[String]) -> Option<usize>
 fn behind_flag(word: &str) -> &[u8]
     ensures { result.now ≡ drop 10 word.now }
 {
-    match word.as_bytes().get(10..) {
+    behind(word.as_bytes())
+}
+
+fn behind(bytes: &[u8]) -> &[u8]
+    ensures { result.now ≡ drop 10 bytes.now }
+{
+    match bytes.get(10..) {
         Some(label) => label,
         None => &[],
     }
