@@ -133,8 +133,5 @@ fn behind_flag(word: &str) -> &[u8]
 fn behind(bytes: &[u8]) -> &[u8]
     ensures { result.now ≡ drop 10 bytes.now }
 {
-    match bytes.get(10..) {
-        Some(label) => label,
-        None => &[],
-    }
+    &bytes[bytes.len().min(10)..]
 }
