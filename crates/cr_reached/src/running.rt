@@ -1,5 +1,5 @@
 // The run of a program, and which nodes it evaluates.
-ghost use Rattle.std.specs.Prelude.{◌≡◌, [], true, false};
+ghost use Rattle.std.specs.Prelude.{◌≡◌, [], None, true, false};
 ghost use Rattle.cr_eval.specs.Table.{program_of};
 ghost use Rattle.cr_exec.specs.Runs.{has_come, Looked};
 ghost use Rattle.cr_meaning.specs.Meaning.{Means};
