@@ -88,7 +88,7 @@ own_other other parts no_if no_while no_switch no_do no_for no_block = refl
 module _ (p : Program) (began whole : List Bool) (op : Op) (own : Bool) (h : AreWhole p began whole) (at : slice_get p.ops (length whole) ≡ Some op) (all : AreAllSet whole (own_of op) own) where
   to_whole : (is_set began (length whole) && own) ≡ true → IsWhole p began (length whole)
   to_whole both node (itself same) = subst (λ n. is_set began n ≡ true) (sym same) (and_parts (is_set began (length whole)) own both).0
-  to_whole both node (within {part = part} {place = place} {op = other} is part_is more) =
+  to_whole both node (within place {part = part} {op = other} is part_is more) =
       let both_are : Some op ≡ Some other = sym at ∙ is in
       let same : op ≡ other = cc in
       let there : slice_get (own_of op) place ≡ Some part = subst (λ o. slice_get (own_of o) place ≡ Some part) (sym same) part_is in
@@ -97,7 +97,7 @@ module _ (p : Program) (began whole : List Bool) (op : Op) (own : Bool) (h : Are
 
   from_whole : IsWhole p began (length whole) → (is_set began (length whole) && own) ≡ true
   from_whole it = and_from (is_set began (length whole)) own (it (length whole) (itself refl))
-      (all.is ∙ all_from whole (own_of op) (λ place node is. (h node (all.below place node is)).1 (λ other more. it other (within at is more))))
+      (all.is ∙ all_from whole (own_of op) (λ place node is. (h node (all.below place node is)).1 (λ other more. it other (within place at is more))))
 
   pub one_more : AreWhole p began (whole ++ (is_set began (length whole) && own) ∷ [])
   one_more node few = by (nat_lt node (length whole)) refl

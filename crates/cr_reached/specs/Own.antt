@@ -28,7 +28,7 @@ own_of op = own_by op.work op.parts
 -- a node's own evaluation, where nothing is skipped, has that of another node
 pub data IsOwn (p : Program) : ℕ → ℕ → Type 0 where
   itself : {node own : ℕ} → own ≡ node → IsOwn p node own
-  within : {node part own place : ℕ} {op : Op} → slice_get p.ops node ≡ Some op → slice_get (own_of op) place ≡ Some part → IsOwn p part own → IsOwn p node own
+  within : (place : ℕ) {node part own : ℕ} {op : Op} → slice_get p.ops node ≡ Some op → slice_get (own_of op) place ≡ Some part → IsOwn p part own → IsOwn p node own
 
 -- ---- a column for this
 
