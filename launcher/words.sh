@@ -45,7 +45,7 @@ number() {
 }
 
 # letters VALUE: whether it names passes, each once.
-letters() { [[ $1 =~ ^[ltbusciprf]+$ ]] && [ "$(fold -w 1 <<<"$1" | sort | uniq -d)" = '' ]; }
+letters() { [[ $1 =~ ^[ltbusciprfvo]+$ ]] && [ "$(fold -w 1 <<<"$1" | sort | uniq -d)" = '' ]; }
 
 # value_fault NAME VALUE: what is wrong with an option's value, if anything.
 value_fault() {
@@ -56,7 +56,7 @@ value_fault() {
     --limit) least=0 most=9223372036854775807 ;;
     --steps) most=100000000 ;;
     --passes)
-        letters "$2" || echo "$1 takes different letters of ltbuscipr and f, and not \"$2\""
+        letters "$2" || echo "$1 takes different letters of ltbusciprfv and o, and not \"$2\""
         return ;;
     esac
     number "$2" "$least" "$most" || echo "$1 takes a number from $least to $most, and not \"$2\""

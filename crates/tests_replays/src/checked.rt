@@ -32,7 +32,7 @@ pub(crate) fn repeated(alloc: Global, times: u64, text: &str) -> Result<Vec<u8>,
     Ok(bytes)
 }
 
-fn enabled_of(letters: &str) -> [bool; 10] {
+fn enabled_of(letters: &str) -> [bool; 12] {
     [
         letters.contains('l'),
         letters.contains('t'),
@@ -44,6 +44,8 @@ fn enabled_of(letters: &str) -> [bool; 10] {
         letters.contains('p'),
         letters.contains('r'),
         letters.contains('f'),
+        letters.contains('v'),
+        letters.contains('o'),
     ]
 }
 

@@ -99,8 +99,8 @@ fn tell_numbers(told: &mut String, found: &Settings) -> Result<(), AllocError> {
 }
 
 /// Tells the letters of the passes that are on.
-pub(crate) fn tell_passes(told: &mut String, enabled: &[bool; 10]) -> Result<(), AllocError> {
-    for (letter, on) in "ltbusciprf".chars().zip(enabled.iter()) {
+pub(crate) fn tell_passes(told: &mut String, enabled: &[bool; 12]) -> Result<(), AllocError> {
+    for (letter, on) in "ltbusciprfvo".chars().zip(enabled.iter()) {
         if *on {
             told.push(letter)?;
         }
