@@ -5,7 +5,8 @@ use Rattle.cr_journal_stops.proofs.Safe.{no_phase}
 use Rattle.cr_lawful.specs.Lawful.{limits_of}
 use Rattle.cr_outside.specs.Question.{Says as Telling}
 use Rattle.cr_outside.specs.Story.{EndsWithFault}
-use Rattle.pass_list.specs.OfferLaws.{few_variants, levels_at, no_level, one_offer}
+use Rattle.pass_list.specs.Offers.{levels_on}
+use Rattle.pass_list.specs.OfferLaws.{few_variants, no_level, one_offer}
 use Rattle.cr_pool.proofs.Runs.{is_so}
 use Rattle.cr_reduce.specs.Bench.{Judging}
 use Rattle.cr_main_formula.proofs.Headline.{formula_headline}
@@ -38,7 +39,7 @@ use Rattle.cr_main.specs.Task.{Query, asked_of, marks_of, saves_of, text_of}
 use Rattle.cr_main.specs.Task.Query.{by_form, by_test}
 use Rattle.cr_main.proofs.Alike.{one_answer_of}
 use Rattle.cr_main.proofs.OrderedLaw.{law_is}
-use Rattle.cr_main.proofs.Promises.{bytes_enough, opens_fails, opens_keep, opens_on, passes_levels, told_of}
+use Rattle.cr_main.proofs.Promises.{opens_fails, opens_keep, opens_on, passes_levels, told_of}
 
 -- a file of a name is written
 pub of_file_saves : (from : Source) → IsOfFile from → saves_of from ≡ true
@@ -146,14 +147,14 @@ module _ (settings : Settings) (any_order : Bool) (query : Query) (says : Tellin
   pub completes_in : (e : Engine) → Suits e settings.source → RunsIn e k (marks_of settings) settings.source old new before after has_failed status → CompletesIn e settings k old new before after has_failed status
   completes_in engine.Plain suits run = λ all.
       bound_free k.law (at k) (λ bytes. by_epochs (at k bytes)) k.name text old new before after status (λ bytes since now read end claims. claims.cause) (λ bytes. told_of (at k bytes)) (λ bytes file is. is)
-      levels_at (λ bytes. passes_levels settings.enabled) bytes_enough (λ bytes file. one_answer_of settings.test settings.steps query bytes says own file) all run
+      (levels_on settings.enabled) (λ bytes. passes_levels settings.enabled) (λ bytes file. one_answer_of settings.test settings.steps query bytes says own file) all run
   completes_in engine.Standing suits run = λ all.
       bound_free k.law (at k) (λ bytes. by_standing (at k bytes)) k.name text old new before after status (λ bytes. standing_cause (at k bytes)) (λ bytes. standing_told (at k bytes)) (λ bytes file is. is)
-      levels_at (λ bytes. passes_levels settings.enabled) bytes_enough (λ bytes file. one_answer_of settings.test settings.steps query bytes says own file) all run
+      (levels_on settings.enabled) (λ bytes. passes_levels settings.enabled) (λ bytes file. one_answer_of settings.test settings.steps query bytes says own file) all run
   completes_in engine.Journal suits run =
-      journal_completes k (marks_of settings) old new before after has_failed status (of_file_saves settings.source suits) levels_at (passes_levels settings.enabled) bytes_enough
+      journal_completes k (marks_of settings) old new before after has_failed status (of_file_saves settings.source suits) (levels_on settings.enabled) (passes_levels settings.enabled)
       (λ bytes file. one_answer_of settings.test settings.steps query bytes says own file) run.0
   completes_in engine.Resume suits run =
-      resume_completes k (marks_of settings) old new before after has_failed status (of_file_saves settings.source suits) levels_at (passes_levels settings.enabled) bytes_enough
+      resume_completes k (marks_of settings) old new before after has_failed status (of_file_saves settings.source suits) (levels_on settings.enabled) (passes_levels settings.enabled)
       (λ bytes file. one_answer_of settings.test settings.steps query bytes says own file) (law_is any_order (limits_of settings.steps)) (λ file o other. one_offer settings.enabled file o other)
       (record { none_above = λ file o pass level is above. no_level settings.enabled file o pass level is (omega (arith, above)); few = few_variants settings.enabled }) run.0

@@ -9,6 +9,7 @@ use Rattle.cr_outside.specs.Story.{files_told}
 use Rattle.cr_outside.specs.Test.{asks_test}
 use Rattle.cr_outside.specs.declared.test.Test.{Test}
 use Rattle.cr_outside.specs.declared.test.Test.TheVariants as test
+use Rattle.pass_list.specs.Offers.{levels_on}
 use Rattle.cr_reduce.specs.Bench.{AsksAtMost, GoesOn, Judging}
 use Rattle.cr_main_formula.specs.Formulas.{IsFormulaHeadline}
 use Rattle.cr_main_kept.specs.Completing.{CompletesFirst, CompletesOn}
@@ -222,10 +223,10 @@ pub data AsksMore (words : List Word) (most : ℕ) (says : Says) (old : Outside)
 
 -- Completeness, by an engine: with all that it needs, a run ends with 0, or for want of memory.
 abbrev pub CompletesIn : Engine → Settings → KeptTask → Outside → Outside → Judging → Judging → Bool → ℕ → Type 0
-CompletesIn engine.Plain settings k old new before after has_failed status = HasAllBound (at k) (text_of settings.source old.files) old new before after → (status ≡ 0) ⊎ (status ≡ 11)
-CompletesIn engine.Standing settings k old new before after has_failed status = HasAllBound (at k) (text_of settings.source old.files) old new before after → (status ≡ 0) ⊎ (status ≡ 11)
-CompletesIn engine.Journal settings k old new before after has_failed status = CompletesFirst k old new before after has_failed status
-CompletesIn engine.Resume settings k old new before after has_failed status = CompletesOn k (marks_of settings) old new before after has_failed status
+CompletesIn engine.Plain settings k old new before after has_failed status = HasAllBound (levels_on settings.enabled) (at k) (text_of settings.source old.files) old new before after → (status ≡ 0) ⊎ (status ≡ 11)
+CompletesIn engine.Standing settings k old new before after has_failed status = HasAllBound (levels_on settings.enabled) (at k) (text_of settings.source old.files) old new before after → (status ≡ 0) ⊎ (status ≡ 11)
+CompletesIn engine.Journal settings k old new before after has_failed status = CompletesFirst (levels_on settings.enabled) k old new before after has_failed status
+CompletesIn engine.Resume settings k old new before after has_failed status = CompletesOn (levels_on settings.enabled) k (marks_of settings) old new before after has_failed status
 
 abbrev pub CompletesMore : List Word → ℕ → Says → Outside → Outside → Judging → Judging → Bool → ℕ → Type 0
 CompletesMore words most says old new before after has_failed status = (settings : Settings) (modes : Modes) (query : Query) (own : List ℕ) → IsReducing words most settings modes query own

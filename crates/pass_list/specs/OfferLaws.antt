@@ -47,7 +47,7 @@ use Rattle.pass_widths.proofs.Values.{values_few}
 use Rattle.pass_list.specs.declared.pass.Pass.{Pass}
 use Rattle.pass_list.specs.declared.pass.Pass.TheVariants.{Brackets, Expressions, Inlined, Lines, NotThere, Output, Parameters, Printed, Renamed, Runs, Statements, Unused, Values}
 use Rattle.pass_list.specs.Passes.{levels_of, pass_by}
-use Rattle.pass_list.specs.Offers.{ByNames, ByStructures, ByTokens, ByTree, IfOn, IsKnown, IsOffered, Known, Offers, is_on, menu_at, nothing, offer_of}
+use Rattle.pass_list.specs.Offers.{ByNames, ByStructures, ByTokens, ByTree, IfOn, IsKnown, IsOffered, Known, Offers, is_on, levels_on, menu_at, nothing, offer_of}
 
 one_on : (on : Bool) (P : Offering → Type 0) (menu other : Offering) → (P menu → P other → menu ≡ other) → IfOn on P menu → IfOn on P other → menu ≡ other
 one_on true P menu other one is also = one is also
@@ -339,6 +339,27 @@ none_known enabled file known (suc pass) level is few = behind_lines pass (chunk
 -- No level stands at or above the number that its pass has.
 pub none_above : (enabled : List Bool) (file : List ℕ) (o : Offer) (pass level : ℕ) → Offers enabled file o → levels_at pass ≤ level → o.widths pass level ≡ 0
 none_above enabled file o pass level it few = subst (λ x. x.widths pass level ≡ 0) (sym it.is) (none_known enabled file it.known pass level it.is_known few)
+
+-- A pass that isn't enabled offers nothing, and so it has no level.
+off_menu : (enabled : List Bool) (file : List ℕ) (known : Known) (pass : ℕ) → IsKnown enabled file known → is_on enabled pass ≡ false → menu_at known.menus pass ≡ nothing
+off_menu enabled file known pass is off = elim (cases_lt pass 12) [
+  | inl low ↦ subst (λ (b : Bool). IfOn b (IsOffered file is.read (pass_by pass)) (menu_at known.menus pass)) off (is.menus pass low)
+  | inr high ↦ get_or_past known.menus pass nothing (let count = is.count in omega (arith, high, count))
+]
+
+no_lines_left : (lines level : ℕ) → lines ≡ 0 → chunks_of lines 0 level ≡ 0
+no_lines_left lines level none = let few = chunks_few lines 0 level in omega (arith, none, few)
+
+off_known : (enabled : List Bool) (file : List ℕ) (known : Known) (pass level : ℕ) → IsKnown enabled file known → is_on enabled pass ≡ false → (offer_of known file).widths pass level ≡ 0
+off_known enabled file known zero level is off = no_lines_left known.lines level (is.lines ∙ ap (λ (b : Bool). if b then length (lines_of file) else 0) off)
+off_known enabled file known (suc pass) level is off = behind_lines pass (chunks_of known.lines 0 level) (length (level_of (menu_at known.menus (suc pass)) level))
+    (ap (λ (m : Offering). length (level_of m level)) (off_menu enabled file known (suc pass) is off))
+
+pub none_on : (enabled : List Bool) (file : List ℕ) (o : Offer) (pass level : ℕ) → Offers enabled file o → levels_on enabled pass ≤ level → o.widths pass level ≡ 0
+none_on enabled file o pass level it few = elim (is_on enabled pass) as (λ b. is_on enabled pass ≡ b → (if b then levels_of (pass_by pass) else 0) ≤ level → o.widths pass level ≡ 0) [
+  | true ↦ λ is above. none_above enabled file o pass level it above
+  | false ↦ λ off above. subst (λ x. x.widths pass level ≡ 0) (sym it.is) (off_known enabled file it.known pass level it.is_known off)
+] refl few
 
 pub no_level : (enabled : List Bool) (file : List ℕ) (o : Offer) (pass level : ℕ) → Offers enabled file o → 15 < level → o.widths pass level ≡ 0
 no_level enabled file o pass level it above = none_above enabled file o pass level it (let few = few_levels (pass_by pass) in omega (arith, few, above))

@@ -23,7 +23,7 @@ use Rattle.pass_stmts.specs.Statements.{s_offering}
 use Rattle.pass_values.specs.Values.{v_offering}
 use Rattle.pass_list.specs.declared.pass.Pass.{Pass}
 use Rattle.pass_list.specs.declared.pass.Pass.TheVariants.{Brackets, Expressions, Inlined, Lines, NotThere, Output, Parameters, Printed, Renamed, Runs, Statements, Unused, Values}
-use Rattle.pass_list.specs.Passes.{pass_by}
+use Rattle.pass_list.specs.Passes.{levels_of, pass_by}
 
 -- What is known of a file: how many lines it has, and what the passes behind the lines offer, each by its number.
 pub record Known : Type 0 where
@@ -36,6 +36,10 @@ nothing = record { levels = []; kept = nothing_kept }
 
 abbrev pub is_on : List Bool → ℕ → Bool
 is_on enabled pass = slice_index_or enabled pass false
+
+-- how many levels the pass of a number has, where it is enabled, else none: 42 in all without v and o
+abbrev pub levels_on : List Bool → ℕ → ℕ
+levels_on enabled pass = if is_on enabled pass then levels_of (pass_by pass) else 0
 
 -- the menu of a pass: what it offers where it is enabled, else nothing
 abbrev pub IfOn : Bool → (Offering → Type 0) → Offering → Type 0
