@@ -115,7 +115,7 @@ module _ (file : List ℕ) (tokens : List Token) {nodes : List Node} {items : Li
       let all = level_counts (λ k. give (format_at f k) (node_at nodes k)) (length nodes) in
       let those = unit_paid u (λ k. length (give (format_at f k) (node_at nodes k))) (λ k. 0) (λ k n at made.
       let le = subst (λ (m : Node). length (give (format_by m.kind f m) m) + width (row_in nodes n.parts) + n.first ≤ n.last + 1) (sym (at_is nodes k n at))
-          (paid u.lexemes nodes u.below give no few f n n.kind n.first (n.last + 1) (parts_within nodes u.below k n at) (rises made.spells) (laid made.spells) (made_wide nodes n made)) in
+      (paid u.lexemes nodes u.below give no few f n n.kind n.first (n.last + 1) (parts_within nodes u.below k n at) (rises made.spells) (laid made.spells) (made_wide nodes n made)) in
       omega (arith, le)) in
       omega (arith, all, those)
 
@@ -125,6 +125,7 @@ module _ (file : List ℕ) (tokens : List Token) {nodes : List Node} {items : Li
       (bared_own n.kind (facts_in file tokens nodes) n))
 
   pub output_few : AreFew (length tokens) (o_offering file tokens nodes)
-  output_few = levels_few (length tokens) (o_offering file tokens nodes).levels
-      (formats (λ o n. taken_in o (facts_in file tokens nodes) n) (λ n. lit≤ tt) (λ o n. taken_few o (facts_in file tokens nodes) n),
-      (bared, (formats (λ o n. numbers_in o (facts_in file tokens nodes) n) (λ n. lit≤ tt) (λ o n. numbers_few o (facts_in file tokens nodes) n), tt)))
+  output_few = levels_few (length tokens) (o_offering file tokens nodes).levels (
+    formats (λ o n. taken_in o (facts_in file tokens nodes) n) (λ n. lit≤ tt) (λ o n. taken_few o (facts_in file tokens nodes) n),
+    (bared, (formats (λ o n. numbers_in o (facts_in file tokens nodes) n) (λ n. lit≤ tt) (λ o n. numbers_few o (facts_in file tokens nodes) n), tt)),
+  )
