@@ -1,5 +1,5 @@
 -- What a run promises, from what it comes to: each is a lemma about its task, or of a run that does nothing.
-use Rattle.std.proofs.Common.{◌≡◌, inl, inr, ◌+◌, ◌*◌, ◌≤◌, ℕ, Bool, false, List, Option, sym, ap, subst, ◌∙◌, arith}
+use Rattle.std.proofs.Common.{◌≡◌, inl, inr, ℕ, Bool, false, List, Option, sym, ap, subst, ◌∙◌, arith}
 use Rattle.cr_outside.specs.Files.{Names}
 use Rattle.cr_outside.specs.Question.{Says as Telling}
 use Rattle.cr_outside.specs.Story.{EndsWithFault, GoesOn, Story}

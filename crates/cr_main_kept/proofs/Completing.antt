@@ -1,5 +1,5 @@
 -- Completeness, from what a kept run comes to.
-use Rattle.std.proofs.Common.{◌≡◌, ◌⊎◌, inl, inr, ℕ, ◌*◌, ◌≤◌, Bool, true, false, List, length, Option, Some, None, refl, sym, ap, subst, ◌∙◌}
+use Rattle.std.proofs.Common.{◌≡◌, ◌⊎◌, inl, inr, ℕ, Bool, true, false, List, length, Option, Some, None, refl, sym, ap, subst, ◌∙◌}
 use Rattle.cr_cursor.specs.Variants.{Offer, place_of}
 use Rattle.cr_journal.specs.Keeping.{IsReductionOn}
 use Rattle.cr_journal_rows.specs.declared.fault.JournalFault.{JournalFault}
@@ -46,7 +46,7 @@ use Rattle.cr_main_task.specs.Run.Concludes.{summed_up, unfinished, unlogged, un
 use Rattle.cr_main_task.specs.Task.{FileHas, FileLacks, given}
 use Rattle.cr_main_task.specs.declared.messages.Refusal.{Refusal}
 use Rattle.cr_main_task.specs.declared.messages.Refusal.TheVariants as refusal
-use Rattle.cr_main_task.proofs.Completing.{IsFree}
+use Rattle.cr_main_task.proofs.Completing.{IsFree, bytes_enough}
 use Rattle.cr_main_task.proofs.Statuses.{fails_status, put_status}
 
 -- 0, want of memory, or a fault of the files or of the disk

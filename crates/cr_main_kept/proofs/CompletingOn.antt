@@ -1,5 +1,5 @@
 -- Completeness of a run that goes on with what a stopped one has left.
-use Rattle.std.proofs.Common.{◌≡◌, inl, inr, ℕ, zero, suc, ◌*◌, ◌<◌, ◌≤◌, ◌^◌, Bool, true, false, List, [], ◌∷◌, ◌++◌, All, map, length, get_or, Option, Some, None, Err, refl, sym, ap, subst, ◌∙◌, arith, length-append}
+use Rattle.std.proofs.Common.{◌≡◌, inl, inr, ℕ, zero, suc, ◌<◌, ◌^◌, Bool, true, false, List, [], ◌∷◌, ◌++◌, All, map, length, get_or, Option, Some, None, Err, refl, sym, ap, subst, ◌∙◌, arith, length-append}
 use Rattle.std.proofs.lemmas.List.{append-nil}
 use Rattle.cr_journal.specs.Keeping.{IsReductionOn}
 use Rattle.cr_journal.specs.Laws.{chain_in, most_turns}
@@ -16,7 +16,7 @@ use Rattle.cr_outside.specs.declared.story.Outcome.TheVariants as called
 use Rattle.cr_outside_disk.specs.Moments.{EveryTold, seen}
 use Rattle.cr_outside_disk.proofs.Images.{seen_is_image}
 use Rattle.cr_reduce.specs.Bench.{Judging}
-use Rattle.cr_reduce.specs.Bound.{HasLevels, enough_turns}
+use Rattle.cr_reduce.specs.Bound.{HasLevels}
 use Rattle.cr_reduce.specs.Ends.{EndsToldAt, outcome_of}
 use Rattle.cr_reduce.specs.Keeping.{Front, IsAsKept, ReducesOnAsTold}
 use Rattle.cr_reduce.specs.Laws.{ExcludeEachOther}
@@ -47,7 +47,6 @@ use Rattle.cr_main_kept.proofs.Completing.{IsSpared, by_disk, by_fault, ended_sp
 use Rattle.cr_main_kept.proofs.Promises.{kept_promises}
 use Rattle.cr_main_kept.proofs.Stories.{every_read}
 use Rattle.cr_main_kept.proofs.Surviving.{FitAll, IsStory, begins_whole, come_first, copy_there, file_there, first_everywhere, front_of_kept, goes_from, now_safe, one_content, read_stays, recovered_stays, rest_first, rows_fit, rows_front, same_outcome, still_story}
-use Rattle.cr_main_task.specs.Headline.{enough_for}
 use Rattle.cr_main_task.specs.Messages.{copy_name}
 use Rattle.cr_main_task.specs.Outside.{Outside}
 use Rattle.cr_main_task.specs.Task.{FileHas, FileLacks, IsOfPrograms, Task, most_read}

@@ -1,5 +1,5 @@
 -- What holds of a run whose task is made from the bytes read, from what it comes to: it is the run of the task of these bytes.
-use Rattle.std.proofs.Common.{◌≡◌, ◌*◌, ◌≤◌, inl, inr, ℕ, Bool, true, false, List, Option, sym, ap, subst, ◌∙◌, arith}
+use Rattle.std.proofs.Common.{◌≡◌, inl, inr, ℕ, Bool, true, false, List, Option, sym, ap, subst, ◌∙◌, arith}
 use Rattle.cr_outside.specs.Story.{EndsWithFault, GoesOn, Story}
 use Rattle.cr_outside.specs.declared.story.Outcome.{Outcome}
 use Rattle.cr_outside.specs.declared.story.Outcome.TheVariants as outcome
