@@ -102,6 +102,7 @@ replay 1 ltbusciprf a.log f.c|--replay|--steps|0000000000000000001|a.log|f.c
 replay 100000000 ltbusciprf a.log f.c|--replay|--steps|100000000|a.log|f.c
 replay 1000000 lt a.log f.c|--replay|--passes|tl|a.log|f.c
 replay 1000000 f a.log f.c|--replay|a.log|f.c|--passes=f
+replay 1000000 fv a.log f.c|--replay|a.log|f.c|--passes=vf
 replay 9 sc a.log f.c|--replay|--passes=cs|a.log|--steps|9|f.c
 replay 1000000 ltbusciprf a.log f.c|--replay|--|a.log|f.c
 replay 1000000 ltbusciprf a.log --steps|--replay|a.log|--|--steps

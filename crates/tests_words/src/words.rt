@@ -25,6 +25,8 @@ const LISTS: &str = "\
 4 256 none 1000000 l has f.c|--passes|l|has:b|f.c
 4 256 none 1000000 tsf has f.c|--passes=fst|has:b|f.c
 4 256 none 1000000 ltbusciprf has f.c|--passes|frpicsubtl|has:b|f.c
+4 256 none 1000000 ltbusciprfvo has f.c|--passes|ovfrpicsubtl|has:b|f.c
+4 256 none 1000000 vo has f.c|--passes=ov|has:b|f.c
 2 16 7 99 bc t.sh f.c|--steps|99|t.sh|--workers=2|--passes|cb|f.c|--limit|7|--window=16
 4 256 none 1000000 ltbusciprf has f.c|has:b|--|f.c
 4 256 none 1000000 ltbusciprf has -x.c|--|has:b|-x.c
@@ -74,6 +76,7 @@ no|--window|4097|has:b|f.c
 no|--steps|0|has:b|f.c
 no|--steps|100000001|has:b|f.c
 no|--passes|ll|has:b|f.c
+no|--passes|vov|has:b|f.c
 no|--passes=|has:b|f.c
 no|--passes|lx|has:b|f.c
 no|--help|has:b|f.c
