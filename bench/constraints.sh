@@ -124,8 +124,8 @@ awk '{ file = sprintf("files/p%05d.c", NR); print >file; close(file) }' programs
 # ---- the rulings: a line `p00001.c:1: not in the subset: WORD NUMBER` where a program is refused; no text of it has a `zz`
 
 cd files
-ls | xargs -n 1 -P "$(nproc)" "$program" --limit 0 has:zz >../rulings.txt 2>&1 || true
-ls | xargs -n 100 -P "$(nproc)" gcc -std=c11 -pedantic-errors -fsyntax-only 2>../messages.txt || true
+printf '%s\n' *.c | xargs -n 1 -P "$(nproc)" "$program" --limit 0 has:zz >../rulings.txt 2>&1 || true
+printf '%s\n' *.c | xargs -n 100 -P "$(nproc)" gcc -std=c11 -pedantic-errors -fsyntax-only 2>../messages.txt || true
 cd ..
 
 # ---- the kinds

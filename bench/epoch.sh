@@ -6,7 +6,7 @@
 set -eu
 . "$(dirname "${BASH_SOURCE[0]}")/timer.sh"
 begin_timer cr_tokens cr_outside cr_cursor cr_rows cr_core cr_claims cr_pool cr_ints cr_syntax cr_syntax_machine cr_syntax_order cr_exprs cr_decls cr_lawful_analysis \
-  cr_printer pass_edit pass_levels pass_brackets pass_text pass_exprs pass_stmts pass_list
+  cr_printer pass_edit pass_levels pass_text pass_exprs pass_stmts pass_list
 mkdir -p specs proofs/rejected
 touch specs/Lib.antt
 cat >proofs/rejected/Invariants.antt <<'ANTT'

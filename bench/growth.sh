@@ -4,7 +4,7 @@
 # some are judged and run whole. CREDUCE=PROGRAM takes another program than the launcher at the top.
 set -u
 . "$(dirname "${BASH_SOURCE[0]}")/reductions.sh"
-begin_reductions
+begin_reductions 0
 
 # processor WORDS..: seconds of the processor.
 processor() {

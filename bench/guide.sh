@@ -16,6 +16,7 @@ failed=0 passed=0 skipped=0 missing='' command='' wanted='' indent=''
 like() {
     local pattern
     pattern=$(printf '%s\n' "$2" | sed 's/[^[:alnum:] ]/\\&/g; s/\\\[\\\.\\\.\\\]/*/g')
+    # shellcheck disable=SC2053 # a pattern
     [[ $1 == $pattern ]]
 }
 
@@ -55,6 +56,7 @@ while IFS= read -r line <&3; do
         wanted+=${wanted:+$'\n'}${line#"$indent"}
     else
         try
+        # shellcheck disable=SC2086 # words
         if [[ $line =~ ^'<!-- needs '(.*)' -->'$ ]]; then needs ${BASH_REMATCH[1]}; fi
     fi
 done 3<"$top/docs/GUIDE.md"

@@ -1,7 +1,6 @@
 #!/usr/bin/env bash
 # Tries the launcher, creduce-new-test and creduce-report beside a stand-in for the program, so that nothing is proved or built: what is
-# answered before a build, what is kept of FILE.orig, what is said beside each refusal, what is left after signals. By hand only:
-# bench/launcher.sh. It takes half a minute.
+# answered before a build, and that it becomes the program. By hand only: bench/launcher.sh. It takes seconds.
 set -u
 repository=$(cd "$(dirname "${BASH_SOURCE[0]}")/.." && pwd)
 folder=$(mktemp -d)
@@ -19,7 +18,6 @@ program=$top/crates/creduce/out/creduce
 cat >"$program" <<'STANDIN'
 #!/bin/sh
 echo "$*" >words.txt
-if [ -f long ]; then mkdir -p creduce-best; echo best >creduce-best/f.c; sh -c 'timeout 60 sleep 59.75; :'; fi
 cat says
 exit "$(cat status)"
 STANDIN
@@ -49,13 +47,17 @@ is() {
     if "$@"; then echo "ok: $what"; else echo "FAILED: $what: status $status, output: $out, errors: $err"; failed=1; fi
 }
 
+# shellcheck disable=SC2317 # is calls them
 says() { [[ $err == *"$1"* ]]; }
+# shellcheck disable=SC2317
 ended() { [ "$status" = "$1" ]; }
 
+# shellcheck disable=SC2034 # it is named within eval
 usage='creduce: usage: creduce [--workers N] [--window N] [--limit N] [--steps N] [--passes LETTERS] TEST FILE'
 program 0 'f.c size 9 to 9 accepted 0 turns 0 fixed'
-for word in --help -h; do
-    call "$word"
+for word in --help -h './t.sh f.c --help'; do
+    # shellcheck disable=SC2086 # several words
+    call $word
     is "$word answers before a build" [ "$status$err" = 0 ]
 done
 is "the help has the options and statuses" grep -q -e '--passes LETTERS' out.txt
@@ -117,95 +119,16 @@ is "--install puts the program and what belongs to it" eval 'ended 0 && cmp -s "
 is "and the record says whether it is the recorded one" eval '[ "$(sed -n "s/^program //p" "$folder/prefix/bin/creduce.record")" = "$(sha256sum <"$program" | cut -c 1-64)" ]'
 is "and what belongs to it is found from there" eval '"$folder/prefix/bin/creduce-new-test" 2>&1 | grep -q missed-optimisation'
 
-echo first >f.c.orig
-call has:main f.c
-is "another FILE.orig is kept" eval '[ "$(cat f.c.orig.1)" = first ]'
-call has:main f.c
-is "and kept once" [ ! -e f.c.orig.2 ]
-echo second >f.c.orig
-call --limit=0 has:main ./f.c
-is "the next one has the next number" eval '[ "$(cat f.c.orig.2)" = second ] && [ "$(cat f.c.orig.1)" = first ]'
-echo third >f.c.orig
-call --resume has:main f.c
-is "with --resume FILE.orig stays in use" [ ! -e f.c.orig.3 ]
-ln -sf f.c f.c.orig
-call has:main f.c
-is "a FILE.orig that is a link to FILE is refused" eval 'ended 1 && says "is a link to f.c itself"'
-rm f.c.orig
 
-# rows WORD MOST LINE: each number up to MOST is explained where the program's line ends with it.
-rows() {
-    local number
-    for number in $(seq "$2"); do
-        program "${4:-4}" "creduce: f.c:1: $3$number"
-        call has:main f.c
-        is "$1$number is explained" says "$1$number: "
-    done
-}
-{
-    rows 'token ' 5 'not in the subset: token '
-    rows 'parse ' 4 'not in the subset: parse '
-    rows 'name ' 2 'not in the subset: name '
-    rows K 43 'not in the subset: type '
-    rows U 16 'not defined: U' 5
-    rows N 7 'left the profile: N' 5
-} >rows.txt
-grep -v '^ok' rows.txt && failed=1
-echo "ok: $(grep -c '^ok' rows.txt) rows of NUMBERS.md are found"
+is "it becomes the program: the status is the program's" eval 'program 6 "creduce: the test says no to f.c"; call has:x f.c; ended 6'
+sh -c 'exec "$@"' sh "$top/creduce" has:main f.c >&- 2>err.txt </dev/null
+status=$? out='' err=$(<err.txt)
+is "with a closed output it starts the program all the same" eval '[ "$(cat words.txt)" = "has:main f.c" ]'
 
-program 4 'creduce: f.c:2: not in the subset: parse 4'
-printf 'int a;\nint f(int *restrict p);\n' >f.c
-is "parse 4 names the form" eval 'call has:main f.c; says "the keyword \`restrict\`"'
-program 2 "$usage"
-while IFS='|' read -r words wanted; do
-    eval "call $words"
-    is "the bad word is named: $words" says "$wanted"
-done <<'WORDS'
---workers 33 a b|--workers takes a number from 1 to 32, and not "33"
---workres 3 a b|"--workres" is no option
---limit=x a b|--limit takes a number
---limit|--limit has no value
---passes lx a b|--passes takes different letters
---steps 3 --steps=3 a b|--steps stands twice
-a|here is only "a"
-a b c|"c" is one more
-has:x gen:7|isn't gen:NUMBER:ITEMS
-has:x d/..|is no name of a file
-WORDS
-program 8 'creduce: the test failed on f.c'
-printf '#!/bin/sh\n' >plain.sh
-is "a test without execute bit is explained" eval 'call ./plain.sh f.c; says "chmod +x"'
-is "a test that isn't there is explained" eval 'call ./none.sh f.c; says "There is no ./none.sh"'
-printf '#!/bin/sh\r\n' >crlf.sh && chmod +x crlf.sh
-is "a first line with CR LF is explained" eval 'call ./crlf.sh f.c; says "CR LF"'
-program 3 'creduce: no file g.c'
-is "a missing file is explained" eval 'call has:x g.c; says "from the folder"'
-CREDUCE_QUIET=1 call has:x g.c
-is "nothing is explained where quiet is asked for" eval 'ended 3 && [ -z "$err" ]'
-program 0 'f.c size 9 to 9 accepted 0 turns 0 fixed'
-status=0
-PATH=/usr/bin:/bin "$top/creduce" has:x f.c >/dev/full 2>err.txt || status=$?
-is "a summary that can't be put is status 10" ended 10
-
-# ends WHO SIGNAL: a run whose test sleeps gets the signal, the launcher or the program alone.
-ends() {
-    local pid
-    touch long && rm -rf creduce-best
-    "$top/creduce" ./plain.sh f.c >out.txt 2>err.txt </dev/null &
-    pid=$!
-    until pgrep -f 'sleep 59.75' >/dev/null; do sleep 0.1; done
-    if [ "$1" = launcher ]; then kill -s "$2" "$pid"; else kill -s "$2" "$(pgrep -P "$pid" -f "$program")"; fi
-    status=0
-    wait "$pid" 2>/dev/null || status=$?
-    out=$(<out.txt) err=$(<err.txt)
-    sleep 0.3
-    rm -f long
-    is "$2 to the $1: nothing is left running, and the best is named" eval '! pgrep -f "sleep 59.75" >/dev/null && says creduce-best/f.c && [ "$status" -gt 128 ]'
-}
-ends launcher TERM
-ends launcher HUP
-ends program TERM
-ends program KILL
+program 0 'a report'
+"$top/creduce-report" f.c.log --svg p.svg >out.txt 2>err.txt
+status=$? out=$(<out.txt) err=$(<err.txt)
+is "creduce-report hands its words on" eval 'ended 0 && [ "$out" = "a report" ] && [ "$(cat words.txt)" = "--report f.c.log --svg p.svg" ]'
 
 is "the manual page is made of the help text" eval '"$top/launcher/manual.sh" | cmp -s - "$repository/docs/creduce.1"'
 cd "$repository" && { ! command -v shellcheck >/dev/null || shellcheck -x creduce creduce-* release/renew launcher/*.sh examples/*.sh examples/*/*.sh || failed=1; }

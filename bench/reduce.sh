@@ -7,7 +7,7 @@
 set -u
 . "$(dirname "${BASH_SOURCE[0]}")/reductions.sh"
 csmith=$(cd "$(dirname "${BASH_SOURCE[0]}")/../examples" && pwd)/csmith.sh
-begin_reductions
+begin_reductions 0
 creduce_peer=${PEER_CREDUCE:-/usr/bin/creduce}
 peer_seconds=${PEER_SECONDS:-600}
 

@@ -1,3 +1,4 @@
+# shellcheck shell=bash
 # To be sourced: reductions in a folder of their own that goes when the script ends, those of a main's lines whose test sleeps among them.
 
 # begin_reductions [SECONDS]: goes to the folder. The test of lines sleeps so long. CREDUCE=PROGRAM takes another program than the launcher
@@ -43,6 +44,7 @@ reduced() {
     cp whole.c f.c
     begun=$(date +%s%N)
     line=$("$program" "$@" f.c) || { echo "it ended with: $line"; exit 1; }
+    # shellcheck disable=SC2034 # it is read by the script that sources this
     spent=$((($(date +%s%N) - begun) / 1000000))
 }
 
@@ -50,5 +52,6 @@ reduced() {
 reduce() {
     : >trials.txt
     reduced --workers "$1" --passes l ./slow.sh
+    # shellcheck disable=SC2034 # so is this
     trials=$(wc -l <trials.txt)
 }

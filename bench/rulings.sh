@@ -4,7 +4,7 @@
 # CREDUCE=PROGRAM takes another program than the launcher at the top.
 set -u
 . "$(dirname "${BASH_SOURCE[0]}")/reductions.sh"
-begin_reductions
+begin_reductions 0
 
 # least CMD..: the least processor seconds of five runs, and the peak of memory of the last one.
 least() {

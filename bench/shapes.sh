@@ -6,7 +6,7 @@
 # CREDUCE=PROGRAM takes another program than the launcher at the top; no ruling may take more than a minute.
 set -u
 . "$(dirname "${BASH_SOURCE[0]}")/reductions.sh"
-begin_reductions
+begin_reductions 0
 
 # list FROM TO FORMAT: the numbers from FROM to TO, each by the format, which may name it twice.
 list() { awk -v from="$1" -v to="$2" -v format="$3" 'BEGIN { for (k = from; k <= to; k++) { line = format; gsub(/@/, k, line); gsub(/%/, k + 1, line); printf "%s\n", line } }'; }

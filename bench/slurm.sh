@@ -15,7 +15,7 @@ wanted=(srun slurmctld slurmd munged)
 [ "$kind" = text ] || wanted+=(gcc clang)
 for tool in "${wanted[@]}"; do command -v "$tool" >/dev/null || { echo "it wants $tool"; exit 1; }; done
 . "$here/reductions.sh"
-begin_reductions
+begin_reductions 0
 host=$(hostname -s)
 export SLURM_CONF=$folder/slurm.conf
 

@@ -8,7 +8,7 @@
 set -u
 here=$(cd "$(dirname "${BASH_SOURCE[0]}")" && pwd)
 . "$here/reductions.sh"
-begin_reductions
+begin_reductions 0
 count=${1:-1000}
 
 # run NAME WORDS..: a reduction of a copy of whole.c in a folder of this name; leaves there what it said, its status, and its files.

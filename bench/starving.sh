@@ -6,7 +6,7 @@
 set -u
 bench=$(cd "$(dirname "${BASH_SOURCE[0]}")" && pwd)
 . "$bench/reductions.sh"
-begin_reductions
+begin_reductions 0
 native=${CREDUCE:-$(dirname "$program")/crates/creduce/out/creduce}
 gcc -std=gnu11 -O1 -Wall -shared -fPIC "$bench/starving.c" -o starving.so || exit 1
 printf 'int f(int x){\nreturn x;\n}\nint main(void){\nreturn f(0);\n}\n' >whole.c

@@ -62,7 +62,7 @@ kills=0 reductions=0 stood=0
 while [ "$kills" -lt "$most" ]; do
     number=$((reductions % 3))
     words=(--workers $((reductions % 8 + 1)) "${tests[number]}" f.c)
-    cp whole.c f.c && rm -f f.c.orig f.c.log f.c.journal
+    cp whole.c f.c && rm -f f.c.orig f.c.log f.c.journal f.c.journal-words
     how=--journal stood=0
     while killed "$number" "$how"; do
         kills=$((kills + 1))

@@ -1,3 +1,4 @@
+# shellcheck shell=bash
 # To be sourced: a program `timer` over some crates, in a folder of its own that goes when the script ends.
 
 # begin_timer CRATE..: makes the folder with the repository's crates, and goes to the empty crate `timer`, which stands on these. What
@@ -8,7 +9,7 @@ begin_timer() {
   lab="$(mktemp -d)"
   trap 'rm -rf "$lab"' EXIT
   touch "$lab/crates.txt"
-  cd "$lab"
+  cd "$lab" || exit 1
   for crate in "$top"/crates/*/; do
     crate="$(basename "$crate")"
     mkdir -p "crates/$crate"
@@ -19,7 +20,7 @@ begin_timer() {
   rt new crates/timer start_io >/dev/null 2>&1
   cp "$top/crates.txt" crates.txt
   echo "timer: $*" >>crates.txt
-  cd crates/timer
+  cd crates/timer || exit 1
   rm -rf src/* specs proofs stdin stdout BUILD.bazel
 }
 
@@ -53,6 +54,7 @@ row() { printf '%s' "$1"; yes "$2" | head -n "$3" | tr -d '\n'; printf '%s' "$4"
 under_other_names() {
   local k
   for k in $(seq 1 1830); do
+    # shellcheck disable=SC2086 # a number
     printf 'typedef int T%d;\nextern int printf(const char *, ...);\nenum color%d { RED%d, GREEN%d = 5, BLUE%d };\nstruct pair%d { T%d left; T%d right; };\nstatic struct pair%d table%d[2] = { { 1, 2 }, { 3, 4 } };\nstatic T%d sum%d(struct pair%d *p, int n)\n{\n  T%d s = 0;\n  int i;\n  for (i = 0; i < n; i++)\n    s += p[i].left * p[i].right;\n  return s;\n}\nint main%d(void)\n{\n  long T%d = BLUE%d;\n  printf("%%d %%ld\\n", sum%d(table%d, 2), T%d);\n  return 0;\n}\n' $k $k $k $k $k $k $k $k $k $k $k $k $k $k $k $k $k $k $k $k
   done
 }

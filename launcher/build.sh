@@ -18,24 +18,6 @@ most() {
     echo "$processors"
 }
 
-# Each crate with about how many processor seconds it takes, and how many pass at least until all that waits for it is done (docs/GATE.md has
-# what a line of code and a line of proof cost).
-costs() {
-    local -a names
-    needed >"$folder/needed" && mapfile -t names < <(sed 's/ .*//' "$folder/needed") && cd "$top/crates" || return 1
-    find "${names[@]}" \( -name out -o -name must-fail \) -prune -o \( -name '*.rt' -o -name '*.antt' \) -type f -print0 | xargs -0 wc -l | awk '
-        NR == FNR { name = $2; if (sub(/\/.*/, "", name)) cost[name] += $1 * ($2 ~ /rt$/ ? 0.09 : 0.01); next }
-        { order[++count] = $1; for (k = 2; k <= NF; k++) above[$k] = above[$k] " " $1 }
-        END {
-            for (k = count; k > 0; k--) {
-                name = order[k]; own = int(5 + cost[name]); waits = 0
-                for (j = split(above[name], list, " "); j > 0; j--) if (chain[list[j]] > waits) waits = chain[list[j]]
-                chain[name] = own + waits
-                print name, own, chain[name]
-            }
-        }' - "$folder/needed"
-}
-
 # The folder as the toolchain wants it, with the crates as they stand now; what earlier calls proved in it stays.
 fill() {
     local name
@@ -65,39 +47,11 @@ prove() {
     [ -x out/creduce ]
 }
 
-# begin: what progress is reckoned from. Without words of its own it would say that all is still to be done.
-begin() {
-    declare -gA cost=() chain=()
-    local name own waits
-    total=0 proved=0 began=$SECONDS lanes=$(most)
-    while read -r name own waits; do
-        cost[$name]=$own chain[$name]=$waits total=$((total + own))
-    done < <(costs)
-    crates=${#cost[@]} left=$crates taken=0
-}
-
-# left_seconds: about how long it will still take: the work that is left by the pace so far (in the first two minutes also by what processors
-# give), and no less than the longest chain.
-left_seconds() {
-    local name longest=0 spent=$((SECONDS - began))
-    for name in "${!chain[@]}"; do [ "${chain[$name]}" -le "$longest" ] || longest=${chain[$name]}; done
-    awk -v left=$((total - proved)) -v proved="$proved" -v spent=$spent -v lanes="$lanes" -v longest="$longest" 'BEGIN {
-        seconds = left / ((proved + lanes * 120) / (spent + 120))
-        print int(seconds > longest ? seconds : longest) }'
-}
-
-about() { if [ "$1" -lt 90 ]; then echo 'about a minute'; else echo "about $((($1 + 30) / 60)) min"; fi; }
-
-# ended NAME HOW: a crate is proved, or was kept.
+# ended NAME HOW: a crate is proved, or was kept, which the log may say more than once.
 ended() {
-    [ -n "${cost[$1]:-}" ] || return
-    left=$((left - 1))
-    if [ "$2" = kept ]; then total=$((total - cost[$1])) taken=$((taken + 1)); else proved=$((proved + cost[$1])); fi
-    unset "chain[$1]" "cost[$1]"
-    [ "$2" = kept ] && return
-    if [ "$taken" -gt 0 ]; then say "proved on this machine before: $taken of $crates" && taken=0; fi
-    [ "$left" = 0 ] && say "$1 is proved, the last of $crates: now the program is built and tried" && return
-    say "$1 is proved: $((100 * proved / total)) % of the work is done after $(took $((SECONDS - began))), $left crates and $(about "$(left_seconds)") left"
+    [ -z "${known[$1]:-}" ] || return 0
+    known[$1]=$2 left=$((left - 1))
+    [ "$2" = kept ] || say "$1 is proved, after $(took $((SECONDS - began))); $left of $crates crates are left"
 }
 
 # follow PID: says what the log tells until that process ends.
@@ -136,12 +90,14 @@ build() {
         if is_built; then exec 9>&- && return 0; fi
     fi
     # The sums and times are those of before: what is edited meanwhile is seen by the next call.
-    if ! { (sums) >"$folder/sums" && cut -c 67- "$folder/sums" >"$folder/files" && (times_of "$folder/files") >"$folder/times" && fill && begin; }; then
+    if ! { (sums) >"$folder/sums" && cut -c 67- "$folder/sums" >"$folder/files" && (times_of "$folder/files") >"$folder/times" && fill; }; then
         say "the crates can't be copied to $folder"
         exit 1
     fi
+    declare -gA known=()
+    began=$SECONDS crates=$(wc -l <"$folder/crates.txt") left=$crates
     say "the program isn't built yet. All of its $crates crates are proved for that, once; if you stop this, the next call goes on from there."
-    say "That is $(about "$total") of processor time, and with $lanes at once $(about "$(left_seconds)"), less what was proved on this machine before."
+    say "That takes an hour or two of processor time, less what was proved on this machine before; $(most) are proved at once."
     : >"$log"
     set -m
     PYTHONUNBUFFERED=1 prove >"$log" 2>&1 </dev/null &

@@ -22,7 +22,7 @@ install_below() {
     prefix=$(mkdir -p "$prefix" && cd "$prefix" && pwd) && record_of "$program" >"$prefix/creduce.record.part" || return 1
     put 755 "$program" bin/creduce && put 644 "$prefix/creduce.record.part" bin/creduce.record && rm "$prefix/creduce.record.part" || return 1
     for name in creduce-new-test creduce-prepare creduce-report; do put 755 "$top/$name" "bin/$name" || return 1; done
-    put 644 "$top/docs/creduce.1" share/man/man1/creduce.1 && put 644 "$top/launcher/report.awk" share/creduce/launcher/report.awk &&
+    put 644 "$top/docs/creduce.1" share/man/man1/creduce.1 &&
         put 644 "$top/launcher/completion/creduce.bash" share/bash-completion/completions/creduce &&
         put 644 "$top/launcher/completion/_creduce" share/zsh/site-functions/_creduce || return 1
     for file in "$top"/include/*.h "$top"/docs/*.md; do put 644 "$file" "share/creduce/${file#"$top"/}" || return 1; done

@@ -3,9 +3,6 @@
 
 say() { echo "creduce: $*" >&2; }
 
-# hint LINE..: an explanation, which CREDUCE_QUIET=1 keeps back.
-hint() { [ "${CREDUCE_QUIET:-}" = 1 ] || printf '%s\n' "$@" >&2; }
-
 took() { if [ "$1" -lt 60 ]; then echo "$1 s"; else echo "$(($1 / 60)) min $(($1 % 60)) s"; fi; }
 
 # The help text, and where this creduce stands.

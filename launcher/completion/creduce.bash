@@ -5,7 +5,7 @@ _creduce() {
     --workers | --window | --limit | --steps | --passes) return ;;
     esac
     if [[ $word == -* ]]; then
-        mapfile -t COMPREPLY < <(compgen -W '--workers --window --limit --steps --passes --journal --resume --standing --any-order --replay --help --version' -- "$word")
+        mapfile -t COMPREPLY < <(compgen -W '--workers --window --limit --steps --passes --journal --resume --standing --any-order --reached= --replay --report --help --version --explain' -- "$word")
     else
         mapfile -t COMPREPLY < <(compgen -f -- "$word")
     fi

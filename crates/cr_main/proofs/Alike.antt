@@ -14,7 +14,7 @@ use Rattle.cr_reduce.specs.Bench.{Judging}
 use Rattle.cr_reduce.specs.Reduction.{Outcome, Proposals, Reduces, State, Trial, Within, cursors_of, moved, next_round, none_fails, start_of, taken}
 use Rattle.cr_reduce.specs.Reduction.Reduces.{accepts, fails, fixed, new_round, rejects, short, spent}
 use Rattle.cr_reduce.specs.Search.{AcceptsAsTold, RejectsAsTold}
-use Rattle.pass_list.specs.Offers.{Offers}
+use Rattle.pass_list.specs.Offers.{Offers, levels_on}
 use Rattle.cr_main_kept.specs.Completing.{CompletesFirst, CompletesOn, HasAllOn}
 use Rattle.cr_main_kept.specs.Header.{passes_mark}
 use Rattle.cr_main_kept.specs.KeptTask.{KeptTask, at}
@@ -25,6 +25,7 @@ use Rattle.cr_main_task.specs.Headline.{enough_for}
 use Rattle.cr_main_task.specs.Outside.{Outside}
 use Rattle.cr_main_words.specs.Laws.{SameSettings}
 use Rattle.cr_main_words.specs.Names.{IsOwnName, name_of}
+use Rattle.cr_main_words.specs.declared.modes.Modes.{Modes}
 use Rattle.cr_main_words.specs.declared.settings.Settings.{Settings}
 use Rattle.cr_main.specs.More.{Means, word_of}
 use Rattle.cr_main.specs.Task.{Query, asked_of, asks_of, law_by, marks_of, tells_of, text_of}
@@ -75,12 +76,12 @@ by_others p A B R S limit taking leaving st out (fails position at turns worker 
 
 -- two readings of the same words
 module _ (a b : Settings) (same : SameSettings a b) (back : SameSettings b a) (one other : Query) (means : Means a.test one) (meant : Means b.test other)
-    (own its : List ℕ) (is_own : IsOwnName (name_of a.source) own) (is_its : IsOwnName (name_of b.source) its) (any_order : Bool) (says : Telling) where
+    (own its : List ℕ) (is_own : IsOwnName (name_of a.source) own) (is_its : IsOwnName (name_of b.source) its) (modes : Modes) (says : Telling) where
   abbrev asked_first : KeptTask
-  asked_first = asked_of a any_order one says own
+  asked_first = asked_of a modes one says own
 
   abbrev asked_then : KeptTask
-  asked_then = asked_of b any_order other says its
+  asked_then = asked_of b modes other says its
 
   owned : own ≡ its
   owned = one_own (name_of b.source) own its (subst (λ n. IsOwnName n own) (same_name a.source b.source same.source) is_own) is_its
@@ -95,13 +96,13 @@ module _ (a b : Settings) (same : SameSettings a b) (back : SameSettings b a) (o
   tells_back bytes file answer it = tells_alike b a back same other one meant means says its own (sym owned) bytes file answer it
 
   lawful : (file : List ℕ) → asked_first.law.Lawful file → asked_then.law.Lawful file
-  lawful file it = subst (λ (n : ℕ). (law_by any_order (limits_of n)).Lawful file) same.steps it
+  lawful file it = subst (λ (n : ℕ). (law_by modes (limits_of n)).Lawful file) same.steps it
 
   lawful_back : (file : List ℕ) → asked_then.law.Lawful file → asked_first.law.Lawful file
-  lawful_back file it = subst (λ (n : ℕ). (law_by any_order (limits_of n)).Lawful file) back.steps it
+  lawful_back file it = subst (λ (n : ℕ). (law_by modes (limits_of n)).Lawful file) back.steps it
 
   -- what a run has all of by the one, it has by the other
-  pub all_bound : (old new : Outside) (before after : Judging) → HasAllBound (at asked_first) (text_of a.source old.files) old new before after → HasAllBound (at asked_then) (text_of b.source old.files) old new before after
+  pub all_bound : (old new : Outside) (before after : Judging) → HasAllBound (levels_on a.enabled) (at asked_first) (text_of a.source old.files) old new before after → HasAllBound (levels_on b.enabled) (at asked_then) (text_of b.source old.files) old new before after
   all_bound old new before after all =
       let bytes = all.0 in
       let it = all.2 in (
@@ -120,7 +121,8 @@ module _ (a b : Settings) (same : SameSettings a b) (back : SameSettings b a) (o
           no_file_fault = it.no_file_fault;
           no_output_fault = it.no_output_fault;
           no_judge_fault = it.no_judge_fault;
-          enough = subst (λ l. Within l (enough_for (length it.bytes))) same.limit it.enough;
+          enough = subst (λ (on : List Bool). Within b.limit (enough_for (levels_on on) (length it.bytes))) same.enabled
+              (subst (λ l. Within l (enough_for (levels_on a.enabled) (length it.bytes))) same.limit it.enough);
         },
       )
 
@@ -189,8 +191,8 @@ module _ (a b : Settings) (same : SameSettings a b) (back : SameSettings b a) (o
         },
       )
 
-  all_on : (bytes : List ℕ) (old new : Outside) (before after : Judging) (has_failed : Bool) → HasAllOn asked_then bytes old new before after has_failed
-      → HasAllOn (renamed (name_of b.source) b.limit) bytes old new before after has_failed
+  all_on : (bytes : List ℕ) (old new : Outside) (before after : Judging) (has_failed : Bool) → HasAllOn (levels_on b.enabled) asked_then bytes old new before after has_failed
+      → HasAllOn (levels_on a.enabled) (renamed (name_of b.source) b.limit) bytes old new before after has_failed
   all_on bytes old new before after has_failed it = record {
     lawful = lawful_back bytes it.lawful;
     all_told = λ file. elim (it.all_told file) [
@@ -202,16 +204,16 @@ module _ (a b : Settings) (same : SameSettings a b) (back : SameSettings b a) (o
     no_disk_fault = it.no_disk_fault;
     no_output_fault = it.no_output_fault;
     no_judge_fault = it.no_judge_fault;
-    enough = it.enough;
+    enough = subst (λ (on : List Bool). Within b.limit (enough_for (levels_on on) (length bytes))) (sym same.enabled) it.enough;
   }
 
-  pub completes_first : (old new : Outside) (before after : Judging) (has_failed : Bool) (status : ℕ) → CompletesFirst asked_first old new before after has_failed status → CompletesFirst asked_then old new before after has_failed status
+  pub completes_first : (old new : Outside) (before after : Judging) (has_failed : Bool) (status : ℕ) → CompletesFirst (levels_on a.enabled) asked_first old new before after has_failed status → CompletesFirst (levels_on b.enabled) asked_then old new before after has_failed status
   completes_first old new before after has_failed status completes =
-      let named = moved_to (λ name limit marks. CompletesFirst (renamed name limit) old new before after has_failed status) completes in
+      let named = moved_to (λ name limit marks. CompletesFirst (levels_on a.enabled) (renamed name limit) old new before after has_failed status) completes in
       λ bytes unbegun all. named bytes unbegun (all_on bytes old new before after has_failed all)
 
-  pub completes_on : (old new : Outside) (before after : Judging) (has_failed : Bool) (status : ℕ) → CompletesOn asked_first (marks_of a) old new before after has_failed status
-      → CompletesOn asked_then (marks_of b) old new before after has_failed status
+  pub completes_on : (old new : Outside) (before after : Judging) (has_failed : Bool) (status : ℕ) → CompletesOn (levels_on a.enabled) asked_first (marks_of a) old new before after has_failed status
+      → CompletesOn (levels_on b.enabled) asked_then (marks_of b) old new before after has_failed status
   completes_on old new before after has_failed status completes =
-      let marked = moved_to (λ name limit marks. CompletesOn (renamed name limit) marks old new before after has_failed status) completes in
+      let marked = moved_to (λ name limit marks. CompletesOn (levels_on a.enabled) (renamed name limit) marks old new before after has_failed status) completes in
       λ bytes size out first whole told safe all. marked bytes size out first (whole_back bytes size out whole) told safe (all_on bytes old new before after has_failed all)

@@ -5,10 +5,11 @@ use Rattle.cr_journal_stops.proofs.Safe.{no_phase}
 use Rattle.cr_lawful.specs.Lawful.{limits_of}
 use Rattle.cr_outside.specs.Question.{Says as Telling}
 use Rattle.cr_outside.specs.Story.{EndsWithFault}
-use Rattle.pass_list.specs.OfferLaws.{few_variants, levels_at, no_level, one_offer}
+use Rattle.pass_list.specs.Offers.{levels_on}
+use Rattle.pass_list.specs.OfferLaws.{few_variants, no_level, one_offer}
 use Rattle.cr_pool.proofs.Runs.{is_so}
 use Rattle.cr_reduce.specs.Bench.{Judging}
-use Rattle.cr_main_formula.proofs.Headline.{formula_headline}
+use Rattle.cr_main.proofs.FormulaHeadline.{formula_headline}
 use Rattle.cr_main_kept.specs.Header.{header_of}
 use Rattle.cr_main_kept.specs.KeptTask.{KeptTask, at}
 use Rattle.cr_main_kept.specs.Promises.{PromisesOn}
@@ -16,8 +17,8 @@ use Rattle.cr_main_kept.specs.Surviving.{Survives}
 use Rattle.cr_main_kept.specs.declared.header.Marks.{Marks}
 use Rattle.cr_main_kept.proofs.CompletingOn.{journal_completes, resume_completes}
 use Rattle.cr_main_kept.proofs.Promises.{kept_promises}
-use Rattle.cr_main_standing.specs.Standing.{by_standing}
-use Rattle.cr_main_standing.proofs.Promises.{standing_cause, standing_goes_on, standing_told}
+use Rattle.cr_main.specs.Standing.{by_standing}
+use Rattle.cr_main.proofs.StandingPromises.{standing_cause, standing_goes_on, standing_told}
 use Rattle.cr_main_task.specs.Bound.{HasReducedBound, PromisesBound}
 use Rattle.cr_main_task.specs.Messages.{copy_name}
 use Rattle.cr_main_task.specs.Opening.{read_of}
@@ -30,6 +31,7 @@ use Rattle.cr_main_task.proofs.Headlines.{few_asked, not_done}
 use Rattle.cr_main_words.specs.Requests.{IsOfFile, Suits}
 use Rattle.cr_main_words.specs.declared.modes.Engine.{Engine}
 use Rattle.cr_main_words.specs.declared.modes.Engine.TheVariants as engine
+use Rattle.cr_main_words.specs.declared.modes.Modes.{Modes}
 use Rattle.cr_main_words.specs.declared.settings.Settings.{Settings}
 use Rattle.cr_main_words.specs.declared.source.Source.{Source}
 use Rattle.cr_main_words.specs.declared.source.Source.TheVariants as source
@@ -38,7 +40,7 @@ use Rattle.cr_main.specs.Task.{Query, asked_of, marks_of, saves_of, text_of}
 use Rattle.cr_main.specs.Task.Query.{by_form, by_test}
 use Rattle.cr_main.proofs.Alike.{one_answer_of}
 use Rattle.cr_main.proofs.OrderedLaw.{law_is}
-use Rattle.cr_main.proofs.Promises.{bytes_enough, opens_fails, opens_keep, opens_on, passes_levels, told_of}
+use Rattle.cr_main.proofs.Promises.{opens_fails, opens_keep, opens_on, passes_levels, told_of}
 
 -- a file of a name is written
 pub of_file_saves : (from : Source) → IsOfFile from → saves_of from ≡ true
@@ -55,12 +57,12 @@ unmoved k marks old new status same is = λ bytes size out first whole told safe
 )
 
 -- the headline of what is asked
-headline_for : (settings : Settings) (any_order : Bool) (query : Query) (says : Telling) (own : List ℕ) (By : List ℕ → Claiming) (text : Text) (old new : Outside) (before after : Judging) (status : ℕ)
-    → HasReducedBound (at (asked_of settings any_order query says own)) By text old new before after status
-    → HeadlineOf query (limits_of settings.steps) (at (asked_of settings any_order query says own)) By text old new before after status
-headline_for settings any_order by_test says own By text old new before after status it = it
-headline_for settings any_order (by_form form) says own By text old new before after status it =
-    formula_headline form (limits_of settings.steps) (at (asked_of settings any_order (by_form form) says own)) By text old new before after status
+headline_for : (settings : Settings) (modes : Modes) (query : Query) (says : Telling) (own : List ℕ) (By : List ℕ → Claiming) (text : Text) (old new : Outside) (before after : Judging) (status : ℕ)
+    → HasReducedBound (at (asked_of settings modes query says own)) By text old new before after status
+    → HeadlineOf query (limits_of settings.steps) (at (asked_of settings modes query says own)) By text old new before after status
+headline_for settings modes by_test says own By text old new before after status it = it
+headline_for settings modes (by_form form) says own By text old new before after status it =
+    formula_headline form (limits_of settings.steps) (at (asked_of settings modes (by_form form) says own)) By text old new before after status
     (record { quiet = λ bytes. refl; holds = λ bytes file holds. holds }) it
 
 module _ (k : KeptTask) (marks : Marks) (from : Source) (old new : Outside) (before after : Judging) (has_failed : Bool) (status : ℕ) where
@@ -117,9 +119,9 @@ module _ (k : KeptTask) (marks : Marks) (from : Source) (old new : Outside) (bef
   fails_in engine.Journal suits saves run eight = (by_journal (saves ∙ of_file_saves from suits) run).failing eight
   fails_in engine.Resume suits saves run eight = (by_resume (saves ∙ of_file_saves from suits) run).failing eight
 
-module _ (settings : Settings) (any_order : Bool) (query : Query) (says : Telling) (own : List ℕ) (old new : Outside) (before after : Judging) (has_failed : Bool) (status : ℕ) where
+module _ (settings : Settings) (modes : Modes) (query : Query) (says : Telling) (own : List ℕ) (old new : Outside) (before after : Judging) (has_failed : Bool) (status : ℕ) where
   abbrev k : KeptTask
-  k = asked_of settings any_order query says own
+  k = asked_of settings modes query says own
 
   abbrev text : Text
   text = text_of settings.source old.files
@@ -128,14 +130,14 @@ module _ (settings : Settings) (any_order : Bool) (query : Query) (says : Tellin
   ends_in engine.Plain suits run =
       let it = by_plain k (marks_of settings) settings.source old new before after has_failed status run in (
         record {
-          headline = λ done. headline_for settings any_order query says own (λ bytes. by_epochs (at k bytes)) text old new before after status (it.headline done);
+          headline = λ done. headline_for settings modes query says own (λ bytes. by_epochs (at k bytes)) text old new before after status (it.headline done);
           finished = it.finished;
         },
         λ reduced done. few_asked (at k reduced.bytes) (read_of text reduced.bytes) old new before after status done reduced.reduced,
       )
   ends_in engine.Standing suits run =
       let it = by_workers k (marks_of settings) settings.source old new before after has_failed status run in record {
-        headline = λ done. headline_for settings any_order query says own (λ bytes. by_standing (at k bytes)) text old new before after status (it.headline done);
+        headline = λ done. headline_for settings modes query says own (λ bytes. by_standing (at k bytes)) text old new before after status (it.headline done);
         finished = it.finished;
       }
   ends_in engine.Journal suits run =
@@ -146,14 +148,14 @@ module _ (settings : Settings) (any_order : Bool) (query : Query) (says : Tellin
   pub completes_in : (e : Engine) → Suits e settings.source → RunsIn e k (marks_of settings) settings.source old new before after has_failed status → CompletesIn e settings k old new before after has_failed status
   completes_in engine.Plain suits run = λ all.
       bound_free k.law (at k) (λ bytes. by_epochs (at k bytes)) k.name text old new before after status (λ bytes since now read end claims. claims.cause) (λ bytes. told_of (at k bytes)) (λ bytes file is. is)
-      levels_at (λ bytes. passes_levels settings.enabled) bytes_enough (λ bytes file. one_answer_of settings.test settings.steps query bytes says own file) all run
+      (levels_on settings.enabled) (λ bytes. passes_levels settings.enabled) (λ bytes file. one_answer_of settings.test settings.steps query bytes says own file) all run
   completes_in engine.Standing suits run = λ all.
       bound_free k.law (at k) (λ bytes. by_standing (at k bytes)) k.name text old new before after status (λ bytes. standing_cause (at k bytes)) (λ bytes. standing_told (at k bytes)) (λ bytes file is. is)
-      levels_at (λ bytes. passes_levels settings.enabled) bytes_enough (λ bytes file. one_answer_of settings.test settings.steps query bytes says own file) all run
+      (levels_on settings.enabled) (λ bytes. passes_levels settings.enabled) (λ bytes file. one_answer_of settings.test settings.steps query bytes says own file) all run
   completes_in engine.Journal suits run =
-      journal_completes k (marks_of settings) old new before after has_failed status (of_file_saves settings.source suits) levels_at (passes_levels settings.enabled) bytes_enough
+      journal_completes k (marks_of settings) old new before after has_failed status (of_file_saves settings.source suits) (levels_on settings.enabled) (passes_levels settings.enabled)
       (λ bytes file. one_answer_of settings.test settings.steps query bytes says own file) run.0
   completes_in engine.Resume suits run =
-      resume_completes k (marks_of settings) old new before after has_failed status (of_file_saves settings.source suits) levels_at (passes_levels settings.enabled) bytes_enough
-      (λ bytes file. one_answer_of settings.test settings.steps query bytes says own file) (law_is any_order (limits_of settings.steps)) (λ file o other. one_offer settings.enabled file o other)
+      resume_completes k (marks_of settings) old new before after has_failed status (of_file_saves settings.source suits) (levels_on settings.enabled) (passes_levels settings.enabled)
+      (λ bytes file. one_answer_of settings.test settings.steps query bytes says own file) (law_is modes (limits_of settings.steps)) (λ file o other. one_offer settings.enabled file o other)
       (record { none_above = λ file o pass level is above. no_level settings.enabled file o pass level is (omega (arith, above)); few = few_variants settings.enabled }) run.0

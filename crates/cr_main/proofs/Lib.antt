@@ -6,6 +6,9 @@ pub mod Paths
 pub mod Sources
 pub mod OrderedLaw
 pub mod Alike
+pub mod FormulaHeadline
+pub mod Standings
+pub mod StandingPromises
 pub mod ByEngine
 pub mod Others
 pub mod More

@@ -47,10 +47,11 @@ use Rattle.cr_main.proofs.Runnable.{is_runnable}
 
 plain_flags : (words : List Word) → HasNoFlag words → GivesModes words plain_modes
 plain_flags words none = record {
-  journal = none (codes "--journal") (inl refl);
-  resume = none (codes "--resume") (inr (inl refl));
-  standing = none (codes "--standing") (inr (inr (inl refl)));
-  any_order = none (codes "--any-order") (inr (inr (inr (inl refl))));
+  journal = none.0 (codes "--journal") (inl refl);
+  resume = none.0 (codes "--resume") (inr (inl refl));
+  standing = none.0 (codes "--standing") (inr (inr (inl refl)));
+  any_order = none.0 (codes "--any-order") (inr (inr (inr (inl refl))));
+  reached = none.1;
 }
 
 -- words that ask for a plain reduction give its settings as they stand
@@ -70,7 +71,7 @@ means_none a b (by_form form) same back means formula none = none form (same_spe
 
 -- a plain reduction by a test that is no formula is the run of its task
 plain_run : (settings : Settings) (query : Query) (says : Telling) (own : List ℕ) (old new : Outside) (before after : Judging) (has_failed : Bool) (status : ℕ) → Means settings.test query → (IsFormula settings.test → ⊥)
-    → RunsIn engine.Plain (asked_of settings false query says own) (marks_of settings) settings.source old new before after has_failed status
+    → RunsIn engine.Plain (asked_of settings plain_modes query says own) (marks_of settings) settings.source old new before after has_failed status
     → RunsTask (task_of settings says own) (text_of settings.source old.files) old new before after status
 plain_run settings by_test says own old new before after has_failed status means none run =
     runs_alike (task_of settings says own) (by_epochs (task_of settings says own)) (text_of settings.source old.files) old new before after status run
@@ -87,7 +88,7 @@ module _ (words : List Word) (most : ℕ) (says : Telling) (old new : Outside) (
       let plain = plain_modes_asked words most settings modes asks it in
       on_task settings own (plain_settings words most settings modes asks plain) is_own
       (plain_run settings query says own old new before after has_failed status means (no_formula_asked words most settings modes asks it)
-      (subst (λ (m : Modes). RunsIn m.engine (asked_of settings m.any_order query says own) (marks_of settings) settings.source old new before after has_failed status) plain run))
+      (subst (λ (m : Modes). RunsIn m.engine (asked_of settings m query says own) (marks_of settings) settings.source old new before after has_failed status) plain run))
   as_run (replay asked asks quiet run) it = absurd (it.no_replay asks.0 asks.1)
 
   -- on words without flag, `--replay` and formula it is `run`
@@ -104,9 +105,9 @@ module _ (words : List Word) (most : ℕ) (says : Telling) (old new : Outside) (
   ends_more (reduction settings modes asks (spells_none formula none idle said)) = of_nothing (put_status old new _ 2 status said)
   ends_more (reduction settings modes asks (unread_word same quiet is)) = of_nothing (inr is)
   ends_more (reduction settings modes asks (reduces query own means is_own silent run)) =
-      let k = asked_of settings modes.any_order query says own in
+      let k = asked_of settings modes query says own in
       of_reduction settings modes query own (reducing settings modes query own asks means is_own)
-      (ends_in settings modes.any_order query says own old new before after has_failed status modes.engine asks.suits run)
+      (ends_in settings modes query says own old new before after has_failed status modes.engine asks.suits run)
       (fails_in k (marks_of settings) settings.source old new before after has_failed status modes.engine asks.suits refl run)
   ends_more (replay asked asks quiet run) = of_replay asked asks (replayed (replaying_by asked) old new status run)
 
@@ -117,7 +118,7 @@ module _ (words : List Word) (most : ℕ) (says : Telling) (old new : Outside) (
   keeps_more (reduction settings modes asks (unread_word same quiet is)) = more_unchanged (ap (λ (o : Outside). o.files) same)
   keeps_more (reduction settings modes asks (reduces query own means is_own silent run)) =
       more_kept settings modes query own (reducing settings modes query own asks means is_own)
-      (keeps_in (asked_of settings modes.any_order query says own) (marks_of settings) settings.source old new before after has_failed status modes.engine asks.suits refl run)
+      (keeps_in (asked_of settings modes query says own) (marks_of settings) settings.source old new before after has_failed status modes.engine asks.suits refl run)
   keeps_more (replay asked asks quiet run) = more_unchanged (replay_files (replaying_by asked) old new status run)
 
   not_nine : (status ≡ 2) ⊎ (status ≡ 11) → status ≡ 9 → ⊥
@@ -130,7 +131,7 @@ module _ (words : List Word) (most : ℕ) (says : Telling) (old new : Outside) (
   fault_more (reduction settings modes asks (spells_none formula none idle said)) nine = absurd (not_nine (put_status old new _ 2 status said) nine)
   fault_more (reduction settings modes asks (unread_word same quiet is)) nine = absurd (not_nine (inr is) nine)
   fault_more (reduction settings modes asks (reduces query own means is_own silent run)) nine =
-      faults_in (asked_of settings modes.any_order query says own) (marks_of settings) settings.source old new before after has_failed status modes.engine asks.suits refl run nine
+      faults_in (asked_of settings modes query says own) (marks_of settings) settings.source old new before after has_failed status modes.engine asks.suits refl run nine
   fault_more (replay asked asks quiet run) nine = replay_faults (replaying_by asked) old new status run nine
 
   pub journal_more : RunsMore words most says old new before after has_failed status → (AsksForJournal words most → ⊥) → KeepsJournal old.story new.story
@@ -139,7 +140,7 @@ module _ (words : List Word) (most : ℕ) (says : Telling) (old new : Outside) (
   journal_more (reduction settings modes asks (spells_none formula none idle said)) unasked = ap journal_told idle.story
   journal_more (reduction settings modes asks (unread_word same quiet is)) unasked = ap (λ (o : Outside). journal_told o.story) same
   journal_more (reduction settings modes asks (reduces query own means is_own silent run)) unasked =
-      journal_in (asked_of settings modes.any_order query says own) (marks_of settings) settings.source old new before after has_failed status modes.engine
+      journal_in (asked_of settings modes query says own) (marks_of settings) settings.source old new before after has_failed status modes.engine
       (λ kept. unasked (settings, modes, query, own, reducing settings modes query own asks means is_own, kept)) run
   journal_more (replay asked asks quiet run) unasked = replay_keeps_journal (replaying_by asked) old new status run
 
@@ -150,7 +151,7 @@ module _ (words : List Word) (most : ℕ) (says : Telling) (old new : Outside) (
   asks_more (reduction settings modes asks (unread_word same quiet is)) = more_asks_nothing quiet
   asks_more (reduction settings modes asks (reduces query own means is_own silent run)) =
       more_asks settings modes query own (reducing settings modes query own asks means is_own)
-      (asks_in (asked_of settings modes.any_order query says own) (marks_of settings) settings.source old new before after has_failed status modes.engine asks.suits refl run) silent
+      (asks_in (asked_of settings modes query says own) (marks_of settings) settings.source old new before after has_failed status modes.engine asks.suits refl run) silent
   asks_more (replay asked asks quiet run) = more_asks_nothing quiet
 
   -- the words have one reading
@@ -160,49 +161,49 @@ module _ (words : List Word) (most : ℕ) (says : Telling) (old new : Outside) (
   -- what one reading of the words survives, each does
   pub survives_more : RunsMore words most says old new before after has_failed status → SurvivesMore words most says old new status
   survives_more (asks_nothing none idle said) = λ a modes query own it kept. absurd (none (request.Reduction a modes) it.asks)
-  survives_more (unread_words same quiet is) = λ a modes query own it kept. unmoved (asked_of a modes.any_order query says own) (marks_of a) old new status same is
+  survives_more (unread_words same quiet is) = λ a modes query own it kept. unmoved (asked_of a modes query says own) (marks_of a) old new status same is
   survives_more (reduction b others asks (spells_none formula none idle said)) = λ a modes query own it kept.
       absurd (means_none a.test b.test query (alike a b modes others it.asks asks).tests (alike b a others modes asks it.asks).tests it.means formula none)
-  survives_more (reduction b others asks (unread_word same quiet is)) = λ a modes query own it kept. unmoved (asked_of a modes.any_order query says own) (marks_of a) old new status same is
+  survives_more (reduction b others asks (unread_word same quiet is)) = λ a modes query own it kept. unmoved (asked_of a modes query says own) (marks_of a) old new status same is
   survives_more (reduction b others asks (reduces other its meant is_its silent run)) = λ a modes query own it kept.
       let one = one_modes words modes others it.asks.flags asks.flags in
-      let here = survives_in (asked_of b others.any_order other says its) (marks_of b) b.source old new before after has_failed status others.engine (subst (λ (m : Modes). IsKept m.engine) one kept) run in
-      subst (λ (m : Modes). Survives (asked_of a m.any_order query says own) (marks_of a) old new status) (sym one)
-      (survives_alike b a (alike b a others modes asks it.asks) (alike a b modes others it.asks asks) other query meant it.means its own is_its it.is_own others.any_order says old new status here)
+      let here = survives_in (asked_of b others other says its) (marks_of b) b.source old new before after has_failed status others.engine (subst (λ (m : Modes). IsKept m.engine) one kept) run in
+      subst (λ (m : Modes). Survives (asked_of a m query says own) (marks_of a) old new status) (sym one)
+      (survives_alike b a (alike b a others modes asks it.asks) (alike a b modes others it.asks asks) other query meant it.means its own is_its it.is_own others says old new status here)
   survives_more (replay asked asks quiet run) = λ a modes query own it kept. absurd (one_request words most (request.Reduction a modes) (request.Replay asked) it.asks asks)
 
   -- and so it is with completeness
-  completes_here : (a b : Settings) (e : Engine) (any_order : Bool) (query other : Query) (own its : List ℕ) → SameSettings a b → SameSettings b a → Means a.test query → Means b.test other
+  completes_here : (a b : Settings) (e : Engine) (asked : Modes) (query other : Query) (own its : List ℕ) → SameSettings a b → SameSettings b a → Means a.test query → Means b.test other
       → IsOwnName (name_of a.source) own → IsOwnName (name_of b.source) its
-      → CompletesIn e b (asked_of b any_order other says its) old new before after has_failed status
-      → CompletesIn e a (asked_of a any_order query says own) old new before after has_failed status
-  completes_here a b engine.Plain any_order query other own its same back means meant is_own is_its completes = λ all.
-      completes (all_bound a b same back query other means meant own its is_own is_its any_order says old new before after all)
-  completes_here a b engine.Standing any_order query other own its same back means meant is_own is_its completes = λ all.
-      completes (all_bound a b same back query other means meant own its is_own is_its any_order says old new before after all)
-  completes_here a b engine.Journal any_order query other own its same back means meant is_own is_its completes =
-      completes_first b a back same other query meant means its own is_its is_own any_order says old new before after has_failed status completes
-  completes_here a b engine.Resume any_order query other own its same back means meant is_own is_its completes =
-      completes_on b a back same other query meant means its own is_its is_own any_order says old new before after has_failed status completes
+      → CompletesIn e b (asked_of b asked other says its) old new before after has_failed status
+      → CompletesIn e a (asked_of a asked query says own) old new before after has_failed status
+  completes_here a b engine.Plain asked query other own its same back means meant is_own is_its completes = λ all.
+      completes (all_bound a b same back query other means meant own its is_own is_its asked says old new before after all)
+  completes_here a b engine.Standing asked query other own its same back means meant is_own is_its completes = λ all.
+      completes (all_bound a b same back query other means meant own its is_own is_its asked says old new before after all)
+  completes_here a b engine.Journal asked query other own its same back means meant is_own is_its completes =
+      completes_first b a back same other query meant means its own is_its is_own asked says old new before after has_failed status completes
+  completes_here a b engine.Resume asked query other own its same back means meant is_own is_its completes =
+      completes_on b a back same other query meant means its own is_its is_own asked says old new before after has_failed status completes
 
   -- no memory was left
-  starved : (a : Settings) (e : Engine) (any_order : Bool) (query : Query) (own : List ℕ) → status ≡ 11 → CompletesIn e a (asked_of a any_order query says own) old new before after has_failed status
-  starved a engine.Plain any_order query own is = λ all. inr is
-  starved a engine.Standing any_order query own is = λ all. inr is
-  starved a engine.Journal any_order query own is = λ bytes unbegun all. inr is
-  starved a engine.Resume any_order query own is = λ bytes size out first whole told safe all. inr is
+  starved : (a : Settings) (e : Engine) (asked : Modes) (query : Query) (own : List ℕ) → status ≡ 11 → CompletesIn e a (asked_of a asked query says own) old new before after has_failed status
+  starved a engine.Plain asked query own is = λ all. inr is
+  starved a engine.Standing asked query own is = λ all. inr is
+  starved a engine.Journal asked query own is = λ bytes unbegun all. inr is
+  starved a engine.Resume asked query own is = λ bytes size out first whole told safe all. inr is
 
   pub completes_more : RunsMore words most says old new before after has_failed status → CompletesMore words most says old new before after has_failed status
   completes_more (asks_nothing none idle said) = λ a modes query own it. absurd (none (request.Reduction a modes) it.asks)
-  completes_more (unread_words same quiet is) = λ a modes query own it. starved a modes.engine modes.any_order query own is
+  completes_more (unread_words same quiet is) = λ a modes query own it. starved a modes.engine modes query own is
   completes_more (reduction b others asks (spells_none formula none idle said)) = λ a modes query own it.
       absurd (means_none a.test b.test query (alike a b modes others it.asks asks).tests (alike b a others modes asks it.asks).tests it.means formula none)
-  completes_more (reduction b others asks (unread_word same quiet is)) = λ a modes query own it. starved a modes.engine modes.any_order query own is
+  completes_more (reduction b others asks (unread_word same quiet is)) = λ a modes query own it. starved a modes.engine modes query own is
   completes_more (reduction b others asks (reduces other its meant is_its silent run)) = λ a modes query own it.
       let one = one_modes words modes others it.asks.flags asks.flags in
-      subst (λ (m : Modes). CompletesIn m.engine a (asked_of a m.any_order query says own) old new before after has_failed status) (sym one)
-      (completes_here a b others.engine others.any_order query other own its (alike a b modes others it.asks asks) (alike b a others modes asks it.asks) it.means meant it.is_own is_its
-      (completes_in b others.any_order other says its old new before after has_failed status others.engine asks.suits run))
+      subst (λ (m : Modes). CompletesIn m.engine a (asked_of a m query says own) old new before after has_failed status) (sym one)
+      (completes_here a b others.engine others query other own its (alike a b modes others it.asks asks) (alike b a others modes asks it.asks) it.means meant it.is_own is_its
+      (completes_in b others other says its old new before after has_failed status others.engine asks.suits run))
   completes_more (replay asked asks quiet run) = λ a modes query own it. absurd (one_request words most (request.Reduction a modes) (request.Replay asked) it.asks asks)
 
   pub more_of : (asked : Request) → Asks words most asked → Does asked says old new before after has_failed status → RunsMore words most says old new before after has_failed status

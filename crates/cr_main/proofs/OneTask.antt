@@ -6,6 +6,7 @@ use Rattle.cr_lawful.specs.Lawful.{IsLawful, limits_of}
 use Rattle.cr_outside.specs.Files.{Names}
 use Rattle.cr_outside.specs.Question.{Says as Telling}
 use Rattle.cr_outside.specs.Test.{asks_test, tells_test}
+use Rattle.pass_list.specs.Offers.{levels_on}
 use Rattle.cr_reduce.specs.Bench.{Judging}
 use Rattle.cr_reduce.specs.Reduction.{Within}
 use Rattle.cr_main_words.specs.Laws.{SameSettings, SameSource}
@@ -99,8 +100,8 @@ module _ (words : List Word) (most : ℕ) (a b : Settings) (own other : List ℕ
   same_tells says file answer it = subst (λ o. tells_test b.test says o file answer) own_alike (alike.tests.tells says own file answer it)
 
   -- what one task has, the other has
-  pub all_alike : (says : Telling) (old new : Outside) (before after : Judging) → HasAll (task_of a says own) (text_of a.source old.files) old new before after
-      → HasAll (task_of b says other) (text_of b.source old.files) old new before after
+  pub all_alike : (says : Telling) (old new : Outside) (before after : Judging) → HasAll (levels_on a.enabled) (task_of a says own) (text_of a.source old.files) old new before after
+      → HasAll (levels_on b.enabled) (task_of b says other) (text_of b.source old.files) old new before after
   all_alike says old new before after all = record {
     bytes = all.bytes;
     there = λ file has. all.there file (same_has old.files a.source b.source alike.source file has);
@@ -114,5 +115,6 @@ module _ (words : List Word) (most : ℕ) (a b : Settings) (own other : List ℕ
     no_file_fault = all.no_file_fault;
     no_output_fault = all.no_output_fault;
     no_judge_fault = all.no_judge_fault;
-    enough = subst (λ l. Within l (enough_for (length all.bytes))) alike.limit all.enough;
+    enough = subst (λ (on : List Bool). Within b.limit (enough_for (levels_on on) (length all.bytes))) alike.enabled
+        (subst (λ l. Within l (enough_for (levels_on a.enabled) (length all.bytes))) alike.limit all.enough);
   }

@@ -1,6 +1,5 @@
 -- What a run promises, from what it comes to: each is a lemma about its task, or of a run that does nothing.
-use Rattle.std.proofs.Common.{◌≡◌, inl, inr, ◌+◌, ◌*◌, ◌≤◌, ℕ, Bool, false, List, Option, sym, ap, subst, ◌∙◌, arith}
-use Rattle.std.proofs.Math.Nat.{mul-le-mul}
+use Rattle.std.proofs.Common.{◌≡◌, inl, inr, ℕ, Bool, false, List, Option, sym, ap, subst, ◌∙◌, arith}
 use Rattle.cr_outside.specs.Files.{Names}
 use Rattle.cr_outside.specs.Question.{Says as Telling}
 use Rattle.cr_outside.specs.Story.{EndsWithFault, GoesOn, Story}
@@ -8,10 +7,10 @@ use Rattle.cr_outside.specs.Test.{one_test_answer}
 use Rattle.cr_outside.specs.declared.story.Outcome.{Outcome}
 use Rattle.cr_outside.specs.declared.story.Outcome.TheVariants.{Failed}
 use Rattle.cr_outside.proofs.Stories.{goes_nowhere}
-use Rattle.pass_list.specs.Offers.{Offers}
-use Rattle.pass_list.specs.OfferLaws.{few_variants, levels_at, none_above}
+use Rattle.pass_list.specs.Offers.{Offers, levels_on}
+use Rattle.pass_list.specs.OfferLaws.{few_variants, none_on}
 use Rattle.cr_reduce.specs.Bench.{Judging}
-use Rattle.cr_reduce.specs.Bound.{HasLevels, enough_turns}
+use Rattle.cr_reduce.specs.Bound.{HasLevels}
 use Rattle.cr_reduce.specs.declared.end.End.{End}
 use Rattle.cr_main_task.specs.Headline as task
 use Rattle.cr_main_task.specs.Outside.{Outside}
@@ -43,15 +42,8 @@ use Rattle.cr_main.proofs.OneTask.{all_alike, same_saves}
 pub told_of : (t : Task) (since after : Judging) (bytes : List ℕ) (end : End) → IsReduction t since after bytes end → IsToldReduction t bytes end
 told_of t since after bytes end it = record { reduction = it.reduction; fixed_point = it.fixed_point }
 
-pub passes_levels : (enabled : List Bool) → HasLevels (Offers enabled) levels_at
-passes_levels enabled = record { none_above = none_above enabled; few = few_variants enabled }
-
--- what is enough for the size is enough for the bytes
-pub bytes_enough : (n size : ℕ) → size ≤ 12 * n → enough_turns levels_at size ≤ task.enough_for n
-bytes_enough n size small =
-    let levels : 42 * size ≤ 504 * n = omega arith in
-    let rounds : size + 1 ≤ 12 * n + 1 = omega arith in
-    omega (arith, mul-le-mul levels rounds)
+pub passes_levels : (enabled : List Bool) → HasLevels (Offers enabled) (levels_on enabled)
+passes_levels enabled = record { none_above = none_on enabled; few = few_variants enabled }
 
 -- what is made of the story to have the bytes
 pub opens_on : (s : Source) (files : Option Names) (end : Outcome) (old new : Option Story) → (text_of s files).Opens end old new → GoesOn old new
@@ -146,9 +138,9 @@ module _ (words : List Word) (most : ℕ) (says : Telling) (old new : Outside) (
   completes (unsorted same quiet is) = λ settings own is_task all. inr is
   completes (on_task given_by name gives is_own run) = λ settings own is_task all.
       let t = task_of given_by says name in
-      task_free t (by_epochs t) (told_of t) (λ since now bytes end it. it.cause) (text_of given_by.source old.files) old new before after
+      task_free t (by_epochs t) (told_of t) (λ since now bytes end it. it.cause) (text_of given_by.source old.files) old new before after (levels_on given_by.enabled)
       (all_alike words most settings given_by own name is_task (record { gives = gives; is_own = is_own }) says old new before after all)
-      levels_at (passes_levels given_by.enabled) bytes_enough (λ file. one_test_answer given_by.test says name file) status run
+      (passes_levels given_by.enabled) (λ file. one_test_answer given_by.test says name file) status run
 
   pub promises : Runs words most says old new before after status → Promises words most says old new before after status
   promises runs = record {

@@ -3,6 +3,7 @@ use Rattle.std.specs.Prelude.{◌≡◌, ◌⊎◌, ◌+◌, ◌*◌, ◌-◌, �
 use Rattle.cr_outside.specs.Question.{Says}
 use Rattle.cr_outside.specs.Story.{EndsWithFault}
 use Rattle.cr_outside.specs.Test.{asks_test}
+use Rattle.pass_list.specs.Offers.{levels_on}
 use Rattle.cr_reduce.specs.Bench.{AsksAtMost, Judging}
 use Rattle.cr_main_task.specs.Headline.{AsksOnlyOf, HasAll, HasFinished, HasReduced, KeepsTask}
 use Rattle.cr_main_task.specs.Outside.{Outside}
@@ -54,7 +55,7 @@ pub data KeepsFiles (words : List Word) (most : ℕ) (says : Says) (old new : Ou
 -- Completeness: with all that it needs, it ends with 0, or for want of memory.
 abbrev pub Completes : List Word → ℕ → Says → Outside → Outside → Judging → Judging → ℕ → Type 0
 Completes words most says old new before after status = (settings : Settings) (own : List ℕ) → IsTask words most settings own
-    → HasAll (task_of settings says own) (text_of settings.source old.files) old new before after → (status ≡ 0) ⊎ (status ≡ 11)
+    → HasAll (levels_on settings.enabled) (task_of settings says own) (text_of settings.source old.files) old new before after → (status ≡ 0) ⊎ (status ≡ 11)
 
 -- What the test is asked in every run.
 pub data AsksOnly (words : List Word) (most : ℕ) (says : Says) (old : Outside) (before after : Judging) : Type 0 where

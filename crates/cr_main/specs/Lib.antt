@@ -3,5 +3,7 @@ pub mod Task
 pub mod Run
 pub mod Headline
 pub mod Laws
+pub mod Formulas
+pub mod Standing
 pub mod More
 pub mod Said

@@ -9,8 +9,9 @@ use Rattle.cr_outside.specs.Story.{files_told}
 use Rattle.cr_outside.specs.Test.{asks_test}
 use Rattle.cr_outside.specs.declared.test.Test.{Test}
 use Rattle.cr_outside.specs.declared.test.Test.TheVariants as test
+use Rattle.pass_list.specs.Offers.{levels_on}
 use Rattle.cr_reduce.specs.Bench.{AsksAtMost, GoesOn, Judging}
-use Rattle.cr_main_formula.specs.Formulas.{IsFormulaHeadline}
+use Rattle.cr_main.specs.Formulas.{IsFormulaHeadline}
 use Rattle.cr_main_kept.specs.Completing.{CompletesFirst, CompletesOn}
 use Rattle.cr_main_kept.specs.Kept.{RunsJournal, RunsResume}
 use Rattle.cr_main_kept.specs.KeptTask.{KeptTask, at}
@@ -19,7 +20,7 @@ use Rattle.cr_main_kept.specs.Surviving.{Survives}
 use Rattle.cr_main_kept.specs.declared.header.Marks.{Marks}
 use Rattle.cr_main_replay.specs.Replay.{IsReplayed, Replaying, RunsReplay}
 use Rattle.cr_main_replay.specs.Programs.{replaying_of}
-use Rattle.cr_main_standing.specs.Standing.{by_standing}
+use Rattle.cr_main.specs.Standing.{by_standing}
 use Rattle.cr_main_task.specs.Bound.{AsksBound, BoundEnded, HasAllBound, HasReducedBound, KeepsBound}
 use Rattle.cr_main_task.specs.Opening.{RunsBound}
 use Rattle.cr_main_task.specs.Outside.{Outside, Puts}
@@ -91,8 +92,8 @@ pub data RunsAsked (settings : Settings) (modes : Modes) (says : Says) (old new 
   unread_word : new ≡ old → after ≡ before → status ≡ 11 → RunsAsked settings modes says old new before after has_failed status
   -- a question that uses no judge asks none
   reduces : (query : Query) (own : List ℕ) → Means settings.test query → IsOwnName (name_of settings.source) own
-      → ((asked_of settings modes.any_order query says own).asks ≡ false → after ≡ before)
-      → RunsIn modes.engine (asked_of settings modes.any_order query says own) (marks_of settings) settings.source old new before after has_failed status
+      → ((asked_of settings modes query says own).asks ≡ false → after ≡ before)
+      → RunsIn modes.engine (asked_of settings modes query says own) (marks_of settings) settings.source old new before after has_failed status
       → RunsAsked settings modes says old new before after has_failed status
 
 -- the log and the file that are asked for, the steps and the passes
@@ -154,7 +155,7 @@ AsksForJournal words most = (settings : Settings) × (modes : Modes) × (query :
 -- **A run that keeps a journal survives its stops.**
 abbrev pub SurvivesMore : List Word → ℕ → Says → Outside → Outside → ℕ → Type 0
 SurvivesMore words most says old new status = (settings : Settings) (modes : Modes) (query : Query) (own : List ℕ) → IsReducing words most settings modes query own → IsKept modes.engine
-    → Survives (asked_of settings modes.any_order query says own) (marks_of settings) old new status
+    → Survives (asked_of settings modes query says own) (marks_of settings) old new status
 
 -- **The headline**, by an engine of which this is claimed: of a formula with no premise on the outside.
 abbrev pub HeadlineOf : Query → Limits → (List ℕ → Task) → (List ℕ → Claiming) → Text → Outside → Outside → Judging → Judging → ℕ → Type 0
@@ -188,8 +189,8 @@ EndsIn engine.Resume settings query k old new before after has_failed status = E
 -- log leads from the copy to the file**.
 pub data EndsMore (words : List Word) (most : ℕ) (says : Says) (old new : Outside) (before after : Judging) (has_failed : Bool) (status : ℕ) : Type 0 where
   of_reduction : (settings : Settings) (modes : Modes) (query : Query) (own : List ℕ) → IsReducing words most settings modes query own
-      → EndsIn modes.engine settings query (asked_of settings modes.any_order query says own) old new before after has_failed status
-      → (status ≡ 8 → (asked_of settings modes.any_order query says own).asks ≡ true) → EndsMore words most says old new before after has_failed status
+      → EndsIn modes.engine settings query (asked_of settings modes query says own) old new before after has_failed status
+      → (status ≡ 8 → (asked_of settings modes query says own).asks ≡ true) → EndsMore words most says old new before after has_failed status
   of_replay : (asked : ReplaySettings) → Asks words most (request.Replay asked) → ((status ≡ 0) ⊎ (status ≡ 10) → IsReplayed (replaying_by asked) old.files)
       → EndsMore words most says old new before after has_failed status
   of_nothing : (status ≡ 2) ⊎ (status ≡ 11) → EndsMore words most says old new before after has_failed status
@@ -204,7 +205,7 @@ KeepsIn engine.Resume source k old new after = KeepsFilesOn k (files_told old.st
 pub data KeepsMore (words : List Word) (most : ℕ) (says : Says) (old new : Outside) (after : Judging) : Type 0 where
   more_unchanged : new.files ≡ old.files → KeepsMore words most says old new after
   more_kept : (settings : Settings) (modes : Modes) (query : Query) (own : List ℕ) → IsReducing words most settings modes query own
-      → KeepsIn modes.engine settings.source (asked_of settings modes.any_order query says own) old new after → KeepsMore words most says old new after
+      → KeepsIn modes.engine settings.source (asked_of settings modes query says own) old new after → KeepsMore words most says old new after
 
 -- What the test is asked. Of standing workers no more is said than that no call is taken back.
 abbrev pub AsksIn : Engine → Source → KeptTask → Outside → Judging → Judging → Type 0
@@ -217,19 +218,19 @@ AsksIn engine.Resume source k old before after = AsksOnlyOn k (files_told old.st
 pub data AsksMore (words : List Word) (most : ℕ) (says : Says) (old : Outside) (before after : Judging) : Type 0 where
   more_asks_nothing : after ≡ before → AsksMore words most says old before after
   more_asks : (settings : Settings) (modes : Modes) (query : Query) (own : List ℕ) → IsReducing words most settings modes query own
-      → AsksIn modes.engine settings.source (asked_of settings modes.any_order query says own) old before after
-      → ((asked_of settings modes.any_order query says own).asks ≡ false → after ≡ before) → AsksMore words most says old before after
+      → AsksIn modes.engine settings.source (asked_of settings modes query says own) old before after
+      → ((asked_of settings modes query says own).asks ≡ false → after ≡ before) → AsksMore words most says old before after
 
 -- Completeness, by an engine: with all that it needs, a run ends with 0, or for want of memory.
 abbrev pub CompletesIn : Engine → Settings → KeptTask → Outside → Outside → Judging → Judging → Bool → ℕ → Type 0
-CompletesIn engine.Plain settings k old new before after has_failed status = HasAllBound (at k) (text_of settings.source old.files) old new before after → (status ≡ 0) ⊎ (status ≡ 11)
-CompletesIn engine.Standing settings k old new before after has_failed status = HasAllBound (at k) (text_of settings.source old.files) old new before after → (status ≡ 0) ⊎ (status ≡ 11)
-CompletesIn engine.Journal settings k old new before after has_failed status = CompletesFirst k old new before after has_failed status
-CompletesIn engine.Resume settings k old new before after has_failed status = CompletesOn k (marks_of settings) old new before after has_failed status
+CompletesIn engine.Plain settings k old new before after has_failed status = HasAllBound (levels_on settings.enabled) (at k) (text_of settings.source old.files) old new before after → (status ≡ 0) ⊎ (status ≡ 11)
+CompletesIn engine.Standing settings k old new before after has_failed status = HasAllBound (levels_on settings.enabled) (at k) (text_of settings.source old.files) old new before after → (status ≡ 0) ⊎ (status ≡ 11)
+CompletesIn engine.Journal settings k old new before after has_failed status = CompletesFirst (levels_on settings.enabled) k old new before after has_failed status
+CompletesIn engine.Resume settings k old new before after has_failed status = CompletesOn (levels_on settings.enabled) k (marks_of settings) old new before after has_failed status
 
 abbrev pub CompletesMore : List Word → ℕ → Says → Outside → Outside → Judging → Judging → Bool → ℕ → Type 0
 CompletesMore words most says old new before after has_failed status = (settings : Settings) (modes : Modes) (query : Query) (own : List ℕ) → IsReducing words most settings modes query own
-    → CompletesIn modes.engine settings (asked_of settings modes.any_order query says own) old new before after has_failed status
+    → CompletesIn modes.engine settings (asked_of settings modes query says own) old new before after has_failed status
 
 -- what is asked of a run needs no judge: its test is a formula, or a text that the file must have
 abbrev pub IsSilent : List Word → ℕ → Type 0

@@ -5,8 +5,8 @@ pub use Rattle.cr_main.specs.Headline.{AsksOnly, Completes, HasEnded, IsHeadline
 pub use Rattle.cr_main.specs.Messages.{usage_line}
 pub use Rattle.cr_main.specs.More.{AsksForJournal, AsksMore, BeginsWithIf, CompletesMore, Does, EndsMore, IsFormula, IsPlain, IsQuiet, IsSilent, KeepsMore, KeepsToAsked, LeavesOthers, MayRun, RunsAsked, RunsIn, RunsMore, RunsPlain, SurvivesMore, word_of}
 pub use Rattle.cr_main.specs.Run.{Runs}
-pub use Rattle.cr_main.specs.Task.{IsMakeable, IsRunnable, IsTaskOf, asked_by, law_by, marks_of, saves_of, task_of, text_of}
-pub use Rattle.cr_main_standing.specs.Standing.{by_standing}
+pub use Rattle.cr_main.specs.Task.{IsMakeable, IsRunnable, IsTaskOf, asked_by, law_by, marks_of, ruled_by, saves_of, task_of, text_of}
+pub use Rattle.cr_main.specs.Standing.{by_standing}
 pub use Rattle.cr_main_task.specs.Opening.{IsOpened, RunsBound, Unopened}
 pub use Rattle.cr_main_task.specs.Outside.{Says, outside}
 pub use Rattle.cr_main_task.specs.Run.{RunsTask, by_epochs}

@@ -1,5 +1,5 @@
 -- What settings of the command line ask for.
-use Rattle.std.specs.Prelude.{◌≡◌, ◌<◌, ◌≤◌, ℕ, Bool, true, false, List, [], Option}
+use Rattle.std.specs.Prelude.{◌≡◌, ◌<◌, ◌≤◌, ℕ, Bool, true, false, List, [], Option, None, Some}
 use Rattle.cr_formula.specs.Forms.{Form}
 use Rattle.cr_formula_bound.specs.Values.{TellsFormula}
 use Rattle.cr_gen.specs.Program.{generated}
@@ -10,6 +10,7 @@ use Rattle.cr_outside.specs.Files.{Names}
 use Rattle.cr_outside.specs.Question.{Says}
 use Rattle.cr_outside.specs.Test.{asks_test, tells_test}
 use Rattle.cr_outside.specs.declared.test.Test.{Test}
+use Rattle.cr_reached.specs.Reached.{IsLawfulReached, IsReachReason}
 use Rattle.pass_list.specs.Offers.{Offers}
 use Rattle.pass_list.specs.declared.passes.CPasses.{CPasses}
 use Rattle.cr_reduce.specs.Search.{search_of}
@@ -20,6 +21,7 @@ use Rattle.cr_main_task.specs.Opening.{Ruled}
 use Rattle.cr_main_task.specs.Task.{Task, Text, given, stored}
 use Rattle.cr_main_task.specs.declared.task.Task.{Task as Asked}
 use Rattle.cr_main_words.specs.Names.{name_of}
+use Rattle.cr_main_words.specs.declared.modes.Modes.{Modes}
 use Rattle.cr_main_words.specs.declared.settings.Settings.{Settings}
 use Rattle.cr_main_words.specs.declared.source.Source.{Source}
 use Rattle.cr_main_words.specs.declared.source.Source.TheVariants as source
@@ -60,19 +62,23 @@ abbrev pub tells_of : Test → Limits → Query → List ℕ → Says → List �
 tells_of test limits by_test bytes says name file answer = tells_test test says name file answer
 tells_of test limits (by_form form) bytes says name file answer = TellsFormula form bytes limits file answer
 
--- the law of programs within limits; with the flag on orders, of those whose runs hang on no order of operands
-abbrev pub law_by : Bool → Limits → Ruled
-law_by false limits = record { Lawful = IsLawful limits; Against = IsReason limits }
-law_by true limits = record { Lawful = IsLawfulInOrder limits; Against = IsOrderReason limits }
+-- the law of programs within limits; with the flag on orders, of those whose runs hang on no order of operands; with a label, of those whose runs reach it
+abbrev pub ruled_by : Option (List ℕ) → Bool → Limits → Ruled
+ruled_by None false limits = record { Lawful = IsLawful limits; Against = IsReason limits }
+ruled_by None true limits = record { Lawful = IsLawfulInOrder limits; Against = IsOrderReason limits }
+ruled_by (Some name) any_order limits = record { Lawful = IsLawfulReached any_order limits name; Against = IsReachReason any_order limits name }
+
+abbrev pub law_by : Modes → Limits → Ruled
+law_by modes limits = ruled_by modes.reached modes.any_order limits
 
 -- what settings ask for by a law and by what is asked of each file, for judges who say this, with the file's own name
 abbrev pub asked_by : Ruled → Bool → (List ℕ → Says → List ℕ → List ℕ → Bool → Type 0) → Settings → Says → List ℕ → KeptTask
 asked_by law asks tells settings says own = kept_with (Offers settings.enabled) law asks tells says own settings.window settings.limit (name_of settings.source) (saves_of settings.source)
 
--- and with the flag on orders, and the test or a formula
-abbrev pub asked_of : Settings → Bool → Query → Says → List ℕ → KeptTask
-asked_of settings any_order query says own =
-    asked_by (law_by any_order (limits_of settings.steps)) (asks_of settings.test query) (tells_of settings.test (limits_of settings.steps) query) settings says own
+-- and with the flags on the law, and the test or a formula
+abbrev pub asked_of : Settings → Modes → Query → Says → List ℕ → KeptTask
+asked_of settings modes query says own =
+    asked_by (law_by modes (limits_of settings.steps)) (asks_of settings.test query) (tells_of settings.test (limits_of settings.steps) query) settings says own
 
 -- what the header of a journal has of settings, beside the limit
 abbrev pub marks_of : Settings → Marks

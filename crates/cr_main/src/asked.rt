@@ -2,12 +2,12 @@
 ghost use Rattle.std.specs.Prelude.{◌≡◌, MatchOption, drop, false, length, string_bytes, true};
 ghost use Rattle.cr_main.specs.Said.{BeginsWithIf, Does, Form, IsFormula, IsQuiet, IsRunnable, LeavesOthers, MayRun, RunsAsked, Spells, Suits, asks_test, form_of, judging, keys_of, outside, says_of, word_of};
 
+use crate::by_formula::ByFormula;
 use crate::given::run_in_modes;
 use crate::messages::put_usage;
 use cr_formula::{Formula, FormulaFault};
 use cr_lawful::{CLaw, LastRun};
 use cr_lawful_analysis::LastRead;
-use cr_main_formula::ByFormula;
 use cr_main_replay::replay_programs;
 use cr_main_task::{Unbound, status};
 use cr_main_words::{Modes, Request, Settings};
@@ -37,7 +37,7 @@ pub fn run_request<R: Threads + Wait + Sync, W: Files + Disk, J: Judge + Send + 
 {
     match request {
         Request::Reduction(settings, modes) => {
-            run_asked(rt, alloc, settings, *modes, world, bench, out)
+            run_asked(rt, alloc, settings, modes, world, bench, out)
         }
         Request::Replay(asked) => replay_programs(
             alloc,
@@ -56,14 +56,14 @@ fn run_asked<R: Threads + Wait + Sync, W: Files + Disk, J: Judge + Send + Drop, 
     rt: &R,
     alloc: Global,
     settings: &Settings,
-    modes: Modes,
+    modes: &Modes,
     world: &mut W,
     bench: &mut Bench<J>,
     out: &mut O,
 ) -> u8
     requires runnable { IsRunnable (length bench.old.judges) settings.now }
-    requires suits { Suits modes.engine settings.now.source }
-    ensures runs { RunsAsked settings.now modes (says_of J.Judge bench.old)
+    requires suits { Suits modes.now.engine settings.now.source }
+    ensures runs { RunsAsked settings.now modes.now (says_of J.Judge bench.old)
         (outside W.Outside W.Files.own world.old O.Sink out.old) (outside W.Outside W.Files.own world.new O.Sink out.new)
         (judging J.Judge bench.old) (judging J.Judge bench.new) (W.Disk.has_failed world.new) result }
     ensures others { drop settings.now.workers bench.new.judges ≡ drop settings.now.workers bench.old.judges }
@@ -90,15 +90,15 @@ fn run_by_test<R: Threads + Wait + Sync, W: Files + Disk, J: Judge + Send + Drop
     rt: &R,
     alloc: Global,
     settings: &Settings,
-    modes: Modes,
+    modes: &Modes,
     world: &mut W,
     bench: &mut Bench<J>,
     out: &mut O,
 ) -> u8
     requires runnable { IsRunnable (length bench.old.judges) settings.now }
-    requires suits { Suits modes.engine settings.now.source }
+    requires suits { Suits modes.now.engine settings.now.source }
     requires no_formula { IsFormula settings.now.test → ⊥ }
-    ensures runs { RunsAsked settings.now modes (says_of J.Judge bench.old)
+    ensures runs { RunsAsked settings.now modes.now (says_of J.Judge bench.old)
         (outside W.Outside W.Files.own world.old O.Sink out.old) (outside W.Outside W.Files.own world.new O.Sink out.new)
         (judging J.Judge bench.old) (judging J.Judge bench.new) (W.Disk.has_failed world.new) result }
     ensures others { drop settings.now.workers bench.new.judges ≡ drop settings.now.workers bench.old.judges }
@@ -118,17 +118,17 @@ fn run_by_formula<R: Threads + Wait + Sync, W: Files + Disk, J: Judge + Send + D
     rt: &R,
     alloc: Global,
     settings: &Settings,
-    modes: Modes,
+    modes: &Modes,
     formula: &Formula,
     world: &mut W,
     bench: &mut Bench<J>,
     out: &mut O,
 ) -> u8
     requires runnable { IsRunnable (length bench.old.judges) settings.now }
-    requires suits { Suits modes.engine settings.now.source }
+    requires suits { Suits modes.now.engine settings.now.source }
     requires formula { IsFormula settings.now.test }
     requires spelled { Spells (word_of settings.now.test) (form_of formula.now) }
-    ensures runs { RunsAsked settings.now modes (says_of J.Judge bench.old)
+    ensures runs { RunsAsked settings.now modes.now (says_of J.Judge bench.old)
         (outside W.Outside W.Files.own world.old O.Sink out.old) (outside W.Outside W.Files.own world.new O.Sink out.new)
         (judging J.Judge bench.old) (judging J.Judge bench.new) (W.Disk.has_failed world.new) result }
     ensures others { drop settings.now.workers bench.new.judges ≡ drop settings.now.workers bench.old.judges }

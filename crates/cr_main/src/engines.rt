@@ -3,8 +3,8 @@ ghost use Rattle.std.specs.Prelude.{◌≡◌, ◌<◌, ◌≤◌, ℕ, List, dr
 ghost use Rattle.cr_main.specs.Said.{IsMakeable, IsOfPrograms, RunsBound, by_epochs, by_standing, files_told, judging, keys_of, name_of, outside, says_of, task_at, text_of};
 
 use crate::source::open_source;
+use crate::standing::run_standing;
 use cr_cursor::{Law, Passes};
-use cr_main_standing::run_standing;
 use cr_main_task::{Asking, Task, run_lawful};
 use cr_main_words::Source;
 use cr_outside::{Files, Judge, Sink};

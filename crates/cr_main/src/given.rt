@@ -1,6 +1,6 @@
 // A reduction behind the words: its law, its task, its engine.
-ghost use Rattle.std.specs.Prelude.{◌≡◌, ℕ, List, drop, false, length};
-ghost use Rattle.cr_main.specs.Said.{IsLawful, IsOfPrograms, IsOwnName, IsRunnable, IsTaskOf, RunsIn, RunsPlain, RunsTask, Suits, asked_by, asks_test, files_told, judging, keys_of, law_by, limits_of, marks_of, name_of, outside, says_of, task_of, text_of};
+ghost use Rattle.std.specs.Prelude.{◌≡◌, ℕ, List, None, Some, drop, false, length};
+ghost use Rattle.cr_main.specs.Said.{IsLawful, IsOfPrograms, IsOwnName, IsRunnable, IsTaskOf, RunsIn, RunsPlain, RunsTask, Suits, asked_by, asks_test, files_told, judging, keys_of, law_by, limits_of, marks_of, name_of, outside, ruled_by, says_of, task_of, text_of};
 
 use crate::engines::{run_by_epochs, run_by_standing};
 use crate::names::own_name;
@@ -15,6 +15,7 @@ use cr_order::OrderLaw;
 use cr_outside::{Files, Judge, Sink};
 use cr_outside_disk::Disk;
 use cr_pool::Bench;
+use cr_reached::ReachedLaw;
 use pass_list::CPasses;
 use std::alloc::Global;
 use std::sync::Wait;
@@ -90,8 +91,8 @@ where
     run_by_epochs(rt, alloc, &task, &settings.source, files, bench, out)
 }
 
-/// Runs the reducer as these settings ask, in these modes, within the limits of a law: with the flag on orders, by that of programs that
-/// run alike in any order.
+/// Runs the reducer as these settings ask, in these modes, within the limits of a law: with a label, by that of programs whose runs reach
+/// it; with the flag on orders, by that of programs that run alike in any order.
 pub fn run_in_modes<
     R: Threads + Wait + Sync,
     A: Asking + Sync,
@@ -102,7 +103,7 @@ pub fn run_in_modes<
     rt: &R,
     alloc: Global,
     settings: &Settings,
-    modes: Modes,
+    modes: &Modes,
     law: &CLaw<'_>,
     asking: &A,
     world: &mut W,
@@ -112,11 +113,67 @@ pub fn run_in_modes<
 where
     A::Bound: Sync,
     requires runnable { IsRunnable (length bench.old.judges) settings.now }
-    requires suits { Suits modes.engine settings.now.source }
+    requires suits { Suits modes.now.engine settings.now.source }
     requires limits { law.now.limits ≡ limits_of settings.now.steps }
     requires binds { (bytes : List ℕ) → IsLawful (limits_of settings.now.steps) bytes → A.binds asking.now bytes }
     ensures runs { (own : List ℕ) × IsOwnName (name_of settings.now.source) own
-        × RunsIn modes.engine (asked_by (law_by modes.any_order (limits_of settings.now.steps)) (A.asks asking.now) (λ bytes. A.tells (A.key asking.now bytes)) settings.now (says_of J.Judge bench.old) own)
+        × RunsIn modes.now.engine (asked_by (law_by modes.now (limits_of settings.now.steps)) (A.asks asking.now) (λ bytes. A.tells (A.key asking.now bytes)) settings.now (says_of J.Judge bench.old) own)
+        (marks_of settings.now) settings.now.source
+        (outside W.Outside W.Files.own world.old O.Sink out.old) (outside W.Outside W.Files.own world.new O.Sink out.new)
+        (judging J.Judge bench.old) (judging J.Judge bench.new) (W.Disk.has_failed world.new) result }
+    ensures others { drop settings.now.workers bench.new.judges ≡ drop settings.now.workers bench.old.judges }
+    ensures silent { A.asks asking.now ≡ false → bench.new.judges ≡ bench.old.judges }
+    ensures keys { keys_of J.Judge bench.new ≡ keys_of J.Judge bench.old }
+{
+    let engine = modes.engine;
+    let any_order = modes.any_order;
+    match &modes.reached {
+        Some(name) => run_reaching(
+            rt,
+            alloc,
+            settings,
+            engine,
+            any_order,
+            name.as_slice(),
+            law,
+            asking,
+            world,
+            bench,
+            out,
+        ),
+        None => run_by_order(
+            rt, alloc, settings, engine, any_order, law, asking, world, bench, out,
+        ),
+    }
+}
+
+// By the law of programs, or of those that run alike in any order.
+fn run_by_order<
+    R: Threads + Wait + Sync,
+    A: Asking + Sync,
+    W: Files + Disk,
+    J: Judge + Send + Drop,
+    O: Sink,
+>(
+    rt: &R,
+    alloc: Global,
+    settings: &Settings,
+    engine: Engine,
+    any_order: bool,
+    law: &CLaw<'_>,
+    asking: &A,
+    world: &mut W,
+    bench: &mut Bench<J>,
+    out: &mut O,
+) -> u8
+where
+    A::Bound: Sync,
+    requires runnable { IsRunnable (length bench.old.judges) settings.now }
+    requires suits { Suits engine settings.now.source }
+    requires limits { law.now.limits ≡ limits_of settings.now.steps }
+    requires binds { (bytes : List ℕ) → IsLawful (limits_of settings.now.steps) bytes → A.binds asking.now bytes }
+    ensures runs { (own : List ℕ) × IsOwnName (name_of settings.now.source) own
+        × RunsIn engine (asked_by (ruled_by None any_order (limits_of settings.now.steps)) (A.asks asking.now) (λ bytes. A.tells (A.key asking.now bytes)) settings.now (says_of J.Judge bench.old) own)
         (marks_of settings.now) settings.now.source
         (outside W.Outside W.Files.own world.old O.Sink out.old) (outside W.Outside W.Files.own world.new O.Sink out.new)
         (judging J.Judge bench.old) (judging J.Judge bench.new) (W.Disk.has_failed world.new) result }
@@ -129,34 +186,62 @@ where
         enabled: settings.enabled,
         last,
     };
-    if modes.any_order {
+    if any_order {
         let law = OrderLaw::beside(law);
         run_by_law(
-            rt,
-            alloc,
-            settings,
-            modes.engine,
-            &passes,
-            &law,
-            asking,
-            world,
-            bench,
-            out,
+            rt, alloc, settings, engine, &passes, &law, asking, world, bench, out,
         )
     } else {
         run_by_law(
-            rt,
-            alloc,
-            settings,
-            modes.engine,
-            &passes,
-            law,
-            asking,
-            world,
-            bench,
-            out,
+            rt, alloc, settings, engine, &passes, law, asking, world, bench, out,
         )
     }
+}
+
+// By the law of programs whose runs reach a label.
+fn run_reaching<
+    R: Threads + Wait + Sync,
+    A: Asking + Sync,
+    W: Files + Disk,
+    J: Judge + Send + Drop,
+    O: Sink,
+>(
+    rt: &R,
+    alloc: Global,
+    settings: &Settings,
+    engine: Engine,
+    any_order: bool,
+    name: &[u8],
+    law: &CLaw<'_>,
+    asking: &A,
+    world: &mut W,
+    bench: &mut Bench<J>,
+    out: &mut O,
+) -> u8
+where
+    A::Bound: Sync,
+    requires runnable { IsRunnable (length bench.old.judges) settings.now }
+    requires suits { Suits engine settings.now.source }
+    requires limits { law.now.limits ≡ limits_of settings.now.steps }
+    requires binds { (bytes : List ℕ) → IsLawful (limits_of settings.now.steps) bytes → A.binds asking.now bytes }
+    ensures runs { (own : List ℕ) × IsOwnName (name_of settings.now.source) own
+        × RunsIn engine (asked_by (ruled_by (Some name.now) any_order (limits_of settings.now.steps)) (A.asks asking.now) (λ bytes. A.tells (A.key asking.now bytes)) settings.now (says_of J.Judge bench.old) own)
+        (marks_of settings.now) settings.now.source
+        (outside W.Outside W.Files.own world.old O.Sink out.old) (outside W.Outside W.Files.own world.new O.Sink out.new)
+        (judging J.Judge bench.old) (judging J.Judge bench.new) (W.Disk.has_failed world.new) result }
+    ensures others { drop settings.now.workers bench.new.judges ≡ drop settings.now.workers bench.old.judges }
+    ensures silent { A.asks asking.now ≡ false → bench.new.judges ≡ bench.old.judges }
+    ensures keys { keys_of J.Judge bench.new ≡ keys_of J.Judge bench.old }
+{
+    let last = law.last;
+    let passes = CPasses {
+        enabled: settings.enabled,
+        last,
+    };
+    let law = ReachedLaw::beside(law, name, any_order);
+    run_by_law(
+        rt, alloc, settings, engine, &passes, &law, asking, world, bench, out,
+    )
 }
 
 // Runs the reducer by an engine, by a law and by what is asked.

@@ -1,5 +1,5 @@
 -- Completeness, from what a kept run comes to.
-use Rattle.std.proofs.Common.{◌≡◌, ◌⊎◌, inl, inr, ℕ, ◌*◌, ◌≤◌, Bool, true, false, List, length, Option, Some, None, refl, sym, ap, subst, ◌∙◌}
+use Rattle.std.proofs.Common.{◌≡◌, ◌⊎◌, inl, inr, ℕ, Bool, true, false, List, length, Option, Some, None, refl, sym, ap, subst, ◌∙◌}
 use Rattle.cr_cursor.specs.Variants.{Offer, place_of}
 use Rattle.cr_journal.specs.Keeping.{IsReductionOn}
 use Rattle.cr_journal_rows.specs.declared.fault.JournalFault.{JournalFault}
@@ -46,7 +46,7 @@ use Rattle.cr_main_task.specs.Run.Concludes.{summed_up, unfinished, unlogged, un
 use Rattle.cr_main_task.specs.Task.{FileHas, FileLacks, given}
 use Rattle.cr_main_task.specs.declared.messages.Refusal.{Refusal}
 use Rattle.cr_main_task.specs.declared.messages.Refusal.TheVariants as refusal
-use Rattle.cr_main_task.proofs.Completing.{IsFree}
+use Rattle.cr_main_task.proofs.Completing.{IsFree, bytes_enough}
 use Rattle.cr_main_task.proofs.Statuses.{fails_status, put_status}
 
 -- 0, want of memory, or a fault of the files or of the disk
@@ -74,13 +74,13 @@ from_start bytes kept offer is =
     let place : place_of offer.widths kept.at ≡ 0 = ap (place_of offer.widths) is.at ∙ first_place offer in
     λ i. record { file = is.file i; offer = offer; position = place i; changed = has_some (is.none i); accepted = is.none i; turns = is.unturned i }
 
-module _ (k : KeptTask) (bytes : List ℕ) (old new : Outside) (before after : Judging) (has_failed : Bool) (all : HasAllOn k bytes old new before after has_failed)
-    (levels : ℕ → ℕ) (has : HasLevels k.Offers levels) (bytes_enough : (n size : ℕ) → size ≤ 12 * n → enough_turns levels size ≤ enough_for n)
+module _ (k : KeptTask) (bytes : List ℕ) (old new : Outside) (before after : Judging) (has_failed : Bool) (levels : ℕ → ℕ)
+    (all : HasAllOn levels k bytes old new before after has_failed) (has : HasLevels k.Offers levels)
     (apart : (file : List ℕ) → k.Tells bytes file true → k.Tells bytes file false → ⊥) where
   -- ---- the end of a kept reduction
 
   pub within_time : (size : ℕ) → HasSize bytes size → Within k.limit (enough_turns levels size)
-  within_time size sized = within_less k.limit (enough_turns levels size) (enough_for (length bytes)) (bytes_enough (length bytes) size (size_by_length bytes size sized)) all.enough
+  within_time size sized = within_less k.limit (enough_turns levels size) (enough_for levels (length bytes)) (bytes_enough levels (length bytes) size (size_by_length bytes size sized)) all.enough
 
   end_spared : (since : Judging) (why : Why) → GoesOn before since → (why ≡ Limit → ⊥) → FaultsWithCause (at k bytes).search since after why → IsFree (end_status why)
   end_spared since Fixed on limit cause = inl refl

@@ -1,5 +1,5 @@
 -- Completeness of a run that goes on with what a stopped one has left.
-use Rattle.std.proofs.Common.{◌≡◌, inl, inr, ℕ, zero, suc, ◌*◌, ◌<◌, ◌≤◌, ◌^◌, Bool, true, false, List, [], ◌∷◌, ◌++◌, All, map, length, get_or, Option, Some, None, Err, refl, sym, ap, subst, ◌∙◌, arith, length-append}
+use Rattle.std.proofs.Common.{◌≡◌, inl, inr, ℕ, zero, suc, ◌<◌, ◌^◌, Bool, true, false, List, [], ◌∷◌, ◌++◌, All, map, length, get_or, Option, Some, None, Err, refl, sym, ap, subst, ◌∙◌, arith, length-append}
 use Rattle.std.proofs.lemmas.List.{append-nil}
 use Rattle.cr_journal.specs.Keeping.{IsReductionOn}
 use Rattle.cr_journal.specs.Laws.{chain_in, most_turns}
@@ -16,7 +16,7 @@ use Rattle.cr_outside.specs.declared.story.Outcome.TheVariants as called
 use Rattle.cr_outside_disk.specs.Moments.{EveryTold, seen}
 use Rattle.cr_outside_disk.proofs.Images.{seen_is_image}
 use Rattle.cr_reduce.specs.Bench.{Judging}
-use Rattle.cr_reduce.specs.Bound.{HasLevels, enough_turns}
+use Rattle.cr_reduce.specs.Bound.{HasLevels}
 use Rattle.cr_reduce.specs.Ends.{EndsToldAt, outcome_of}
 use Rattle.cr_reduce.specs.Keeping.{Front, IsAsKept, ReducesOnAsTold}
 use Rattle.cr_reduce.specs.Laws.{ExcludeEachOther}
@@ -47,7 +47,6 @@ use Rattle.cr_main_kept.proofs.Completing.{IsSpared, by_disk, by_fault, ended_sp
 use Rattle.cr_main_kept.proofs.Promises.{kept_promises}
 use Rattle.cr_main_kept.proofs.Stories.{every_read}
 use Rattle.cr_main_kept.proofs.Surviving.{FitAll, IsStory, begins_whole, come_first, copy_there, file_there, first_everywhere, front_of_kept, goes_from, now_safe, one_content, read_stays, recovered_stays, rest_first, rows_fit, rows_front, same_outcome, still_story}
-use Rattle.cr_main_task.specs.Headline.{enough_for}
 use Rattle.cr_main_task.specs.Messages.{copy_name}
 use Rattle.cr_main_task.specs.Outside.{Outside}
 use Rattle.cr_main_task.specs.Task.{FileHas, FileLacks, IsOfPrograms, Task, most_read}
@@ -90,8 +89,8 @@ none_bad header rows bodies i low (more, is) first =
 module _ (k : KeptTask) (marks : Marks) (bytes : List ℕ) (size : ℕ) (out : Outcome) (whole : IsWhole (at k bytes) bytes size out) (saves : k.saves ≡ true)
     (of_programs : IsOfPrograms k.law.Lawful k.law.Against) (one : OffersOne k.Offers)
     (excluded : ExcludeEachOther (AcceptsAsTold (at k bytes).search) (RejectsAsTold (at k bytes).search)) (sixteen : HasLevels k.Offers (λ pass. 16))
-    (old new : Outside) (before after : Judging) (has_failed : Bool) (all : HasAllOn k bytes old new before after has_failed)
-    (levels : ℕ → ℕ) (has : HasLevels k.Offers levels) (bytes_enough : (n size : ℕ) → size ≤ 12 * n → enough_turns levels size ≤ enough_for n)
+    (old new : Outside) (before after : Judging) (has_failed : Bool) (levels : ℕ → ℕ)
+    (all : HasAllOn levels k bytes old new before after has_failed) (has : HasLevels k.Offers levels)
     (apart : (file : List ℕ) → k.Tells bytes file true → k.Tells bytes file false → ⊥) where
   abbrev t : Task
   t = at k bytes
@@ -105,7 +104,7 @@ module _ (k : KeptTask) (marks : Marks) (bytes : List ℕ) (size : ℕ) (out : O
   whole_in_time is =
       let (offer, offered, run) = whole.reduction in
       ends_in_time k.Offers (AcceptsAsTold t.search) (RejectsAsTold t.search) none_fails levels size k.limit has (λ f v it. it.smaller) bytes offer out offered whole.sized
-      (within_time k bytes old new before after has_failed all levels has bytes_enough apart size whole.sized) run is
+      (within_time k bytes old new before after has_failed levels all has apart size whole.sized) run is
 
   on_in_time : (since : Judging) (kept : Kept) (end : End) → ReducesOnAsTold t.search kept k.limit out → IsReductionOn t.search since after k.window k.limit kept end → end.why ≡ Limit → ⊥
   on_in_time since kept end goes reduction is_limit =
@@ -152,14 +151,14 @@ module _ (k : KeptTask) (marks : Marks) (bytes : List ℕ) (size : ℕ) (out : O
   follows_spared : (header : Header) (rows : List Accepted) (read : Outside) (status : ℕ) → read.output_faults ≡ old.output_faults → IsStory read.story → Safe read.story → EveryTold (AtRest (bodies_of header rows)) read.story
       → AllFit header rows → FollowsOn t bytes rows read new before after has_failed status → IsSpared status
   follows_spared header rows read status same told safe rests fits (stopped stops) =
-      stops_spared k bytes old new before after has_failed all levels has bytes_enough apart false read status stops
+      stops_spared k bytes old new before after has_failed levels all has apart false read status stops
   follows_spared header rows read status same told safe rests fits (differs asked old_size i begins breaks below unmoved said) = absurd (never_breaks header rows i read.story told safe rests fits below breaks)
   follows_spared header rows read status same told safe rests fits (closed asked old_size why begins unmoved cause stops) =
-      fault_spared k bytes old new before after has_failed all levels has bytes_enough apart asked why status cause stops
+      fault_spared k bytes old new before after has_failed levels all has apart asked why status cause stops
   follows_spared header rows read status same told safe rests fits (followed asked started since old_size kept begins replayed below reopened ends) =
       let front : Front kept.accepted.items out.accepted = subst (λ (l : List Accepted). Front l out.accepted) (sym replayed.same) (rows_come_first header rows read.story told safe rests fits below) in
       let goes = goes_from k marks bytes size out whole saves of_programs one excluded sixteen kept replayed.is_kept front in
-      ended_spared k bytes old new before after has_failed all levels has bytes_enough apart started since kept old_size status (reopened.output_faults ∙ begins.copied.output_faults ∙ same) begins.answered.asked.goes_on
+      ended_spared k bytes old new before after has_failed levels all has apart started since kept old_size status (reopened.output_faults ∙ begins.copied.output_faults ∙ same) begins.answered.asked.goes_on
       (λ end. on_in_time since kept end goes) ends
 
   -- what is read of the copy of this name
@@ -221,7 +220,7 @@ module _ (k : KeptTask) (marks : Marks) (bytes : List ℕ) (size : ℕ) (out : O
       let stays = recovered_stays k marks bytes size out whole saves of_programs one excluded sixteen old.story started.story safe journalled.journal in
       let is_told = still_story k marks bytes size out whole saves of_programs one excluded sixteen old.story started.story stays told in
       let file_is = file_there k marks bytes size out whole saves of_programs one excluded sixteen started.story (now_safe k marks bytes size out whole saves of_programs one excluded sixteen old.story started.story stays) none in
-      first_spared k bytes old new before after has_failed all levels has bytes_enough apart marks started status journalled.output_faults
+      first_spared k bytes old new before after has_failed levels all has apart marks started status journalled.output_faults
       (λ other it. one_content started.story k.name other bytes is_told it file_is) (file_lacks started.story is_told file_is) runs
   resume_spared status told safe (further started header rows recovers journalled rests fits runs) =
       let stays = recovered_stays k marks bytes size out whole saves of_programs one excluded sixteen old.story started.story safe journalled.journal in
@@ -233,17 +232,17 @@ module _ (k : KeptTask) (marks : Marks) (bytes : List ℕ) (size : ℕ) (out : O
       let promises = kept_promises k marks old new before after has_failed status saves (inr runs) in
       let told : IsStory old.story = subst IsStory (sym is) tt in
       let safe_now : Safe old.story = subst (λ (m : Option Story). Safe m) (sym is) safe in
-      spared_free k bytes old new before after has_failed all levels has bytes_enough apart status (λ nine. all.no_file_fault (promises.fault_last nine))
+      spared_free k bytes old new before after has_failed levels all has apart status (λ nine. all.no_file_fault (promises.fault_last nine))
       (λ twelve. let failed = (promises.failed twelve).0 in let fine = all.no_disk_fault in cc (sym failed ∙ fine)) (resume_spared status told safe_now runs)
 
 -- Completeness of the two runs, where the passes have these levels, and the question doesn't tell both answers.
 module _ (k : KeptTask) (marks : Marks) (old new : Outside) (before after : Judging) (has_failed : Bool) (status : ℕ) (saves : k.saves ≡ true)
-    (levels : ℕ → ℕ) (has : HasLevels k.Offers levels) (bytes_enough : (n size : ℕ) → size ≤ 12 * n → enough_turns levels size ≤ enough_for n)
+    (levels : ℕ → ℕ) (has : HasLevels k.Offers levels)
     (apart : (bytes file : List ℕ) → k.Tells bytes file true → k.Tells bytes file false → ⊥) where
-  pub journal_completes : RunsJournal k marks old new before after has_failed status → CompletesFirst k old new before after has_failed status
-  journal_completes runs = λ bytes unbegun all. journal_free k bytes old new before after has_failed all levels has bytes_enough (apart bytes) marks status saves unbegun runs
+  pub journal_completes : RunsJournal k marks old new before after has_failed status → CompletesFirst levels k old new before after has_failed status
+  journal_completes runs = λ bytes unbegun all. journal_free k bytes old new before after has_failed levels all has (apart bytes) marks status saves unbegun runs
 
   pub resume_completes : IsOfPrograms k.law.Lawful k.law.Against → OffersOne k.Offers → HasLevels k.Offers (λ pass. 16) → RunsResume k marks old new before after has_failed status
-      → CompletesOn k marks old new before after has_failed status
+      → CompletesOn levels k marks old new before after has_failed status
   resume_completes of_programs one sixteen runs = λ bytes size out first whole is safe all.
-      resume_free k marks bytes size out whole saves of_programs one (told_apart k.law.Lawful (k.Tells bytes) (apart bytes)) sixteen old new before after has_failed all levels has bytes_enough (apart bytes) status first is safe runs
+      resume_free k marks bytes size out whole saves of_programs one (told_apart k.law.Lawful (k.Tells bytes) (apart bytes)) sixteen old new before after has_failed levels all has (apart bytes) status first is safe runs

@@ -14,9 +14,9 @@ use Rattle.cr_main_task.specs.Headline.{enough_for}
 use Rattle.cr_main_task.specs.Outside.{Outside}
 
 -- A kept run on these bytes has all that it needs: they obey the law, the test's answers are told, and yes to them, no call on the outside
--- or on the disk fails, and the limit is absent or large enough. Of the calls on the files and on the disk it is the last that
+-- or on the disk fails, and the limit is absent or large enough for passes of so many levels. Of the calls on the files and on the disk it is the last that
 -- didn't fail, since none follows one that did.
-pub record HasAllOn (k : KeptTask) (bytes : List ℕ) (old new : Outside) (before after : Judging) (has_failed : Bool) : Type 0 where
+pub record HasAllOn (levels : ℕ → ℕ) (k : KeptTask) (bytes : List ℕ) (old new : Outside) (before after : Judging) (has_failed : Bool) : Type 0 where
   pub lawful : k.law.Lawful bytes
   pub all_told : IsAllTold (at k bytes).search
   pub yes : k.Tells bytes bytes true
@@ -24,7 +24,7 @@ pub record HasAllOn (k : KeptTask) (bytes : List ℕ) (old new : Outside) (befor
   pub no_disk_fault : has_failed ≡ false
   pub no_output_fault : Rose old.output_faults new.output_faults → ⊥
   pub no_judge_fault : (worker : ℕ) → RoseAt worker before.faults after.faults → ⊥
-  pub enough : Within k.limit (enough_for (length bytes))
+  pub enough : Within k.limit (enough_for levels (length bytes))
 
 -- The file has these bytes, and its journal is empty or not there.
 pub record IsUnbegun (name bytes : List ℕ) (told : Option Story) : Type 0 where
@@ -33,13 +33,13 @@ pub record IsUnbegun (name bytes : List ℕ) (told : Option Story) : Type 0 wher
   pub empty : length (seen story) ≡ 0
   pub has : content_of (files_now story) name ≡ Some bytes
 
--- A run that begins a journal, where there is none.
-abbrev pub CompletesFirst : KeptTask → Outside → Outside → Judging → Judging → Bool → ℕ → Type 0
-CompletesFirst k old new before after has_failed status =
-    (bytes : List ℕ) → IsUnbegun k.name bytes old.story → HasAllOn k bytes old new before after has_failed → (status ≡ 0) ⊎ (status ≡ 11)
+-- A run that begins a journal, where there is none, by passes of so many levels.
+abbrev pub CompletesFirst : (ℕ → ℕ) → KeptTask → Outside → Outside → Judging → Judging → Bool → ℕ → Type 0
+CompletesFirst levels k old new before after has_failed status =
+    (bytes : List ℕ) → IsUnbegun k.name bytes old.story → HasAllOn levels k bytes old new before after has_failed → (status ≡ 0) ⊎ (status ≡ 11)
 
 -- A run that goes on with what a stopped one has left.
-abbrev pub CompletesOn : KeptTask → Marks → Outside → Outside → Judging → Judging → Bool → ℕ → Type 0
-CompletesOn k marks old new before after has_failed status =
+abbrev pub CompletesOn : (ℕ → ℕ) → KeptTask → Marks → Outside → Outside → Judging → Judging → Bool → ℕ → Type 0
+CompletesOn levels k marks old new before after has_failed status =
     (bytes : List ℕ) (size : ℕ) (out : Outcome) (first : Story) → IsWhole (at k bytes) bytes size out → old.story ≡ Some first → IsSafeFor (at k bytes) marks bytes size out first
-    → HasAllOn k bytes old new before after has_failed → (status ≡ 0) ⊎ (status ≡ 11)
+    → HasAllOn levels k bytes old new before after has_failed → (status ≡ 0) ⊎ (status ≡ 11)

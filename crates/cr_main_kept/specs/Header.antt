@@ -19,6 +19,7 @@ abbrev pub passes_mark : List Bool → ℕ
 passes_mark enabled =
     bit (get_or enabled 0 false) 1 + bit (get_or enabled 1 false) 2 + bit (get_or enabled 2 false) 4 + bit (get_or enabled 3 false) 8 + bit (get_or enabled 4 false) 16
     + bit (get_or enabled 5 false) 32 + bit (get_or enabled 6 false) 64 + bit (get_or enabled 7 false) 128 + bit (get_or enabled 8 false) 256 + bit (get_or enabled 9 false) 512
+    + bit (get_or enabled 10 false) 1024 + bit (get_or enabled 11 false) 2048
 
 abbrev pub header_of : Marks → Option ℕ → ℕ → Header
 header_of marks limit size = record { passes = marks.passes; steps = marks.steps; limit = limit_mark limit; size = size }

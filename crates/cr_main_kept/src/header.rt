@@ -24,7 +24,7 @@ const UNLIMITED: u64 = u64::MAX;
 pub const MOST_TURNS: u64 = (1 << 63) - 1;
 
 /// The mark of the enabled passes.
-pub fn passes_mark(enabled: [bool; 10]) -> u16
+pub fn passes_mark(enabled: [bool; 12]) -> u16
     ensures { result ≡ passes_mark enabled }
 {
     bit(enabled[0], 1)
@@ -37,6 +37,8 @@ pub fn passes_mark(enabled: [bool; 10]) -> u16
         + bit(enabled[7], 128)
         + bit(enabled[8], 256)
         + bit(enabled[9], 512)
+        + bit(enabled[10], 1024)
+        + bit(enabled[11], 2048)
 }
 
 fn bit(is_enabled: bool, value: u16) -> u16

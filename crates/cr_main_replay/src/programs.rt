@@ -17,7 +17,7 @@ use std::alloc::Global;
 pub fn replay_programs<F: Files, O: Sink>(
     alloc: Global,
     steps: u64,
-    enabled: [bool; 10],
+    enabled: [bool; 12],
     log: &str,
     file: &str,
     files: &mut F,

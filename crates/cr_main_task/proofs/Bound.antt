@@ -1,18 +1,18 @@
 -- What holds of a run whose task is made from the bytes read, from what it comes to: it is the run of the task of these bytes.
-use Rattle.std.proofs.Common.{◌≡◌, ◌*◌, ◌≤◌, inl, inr, ℕ, Bool, true, false, List, Option, sym, ap, subst, ◌∙◌, arith}
+use Rattle.std.proofs.Common.{◌≡◌, inl, inr, ℕ, Bool, true, false, List, Option, sym, ap, subst, ◌∙◌, arith}
 use Rattle.cr_outside.specs.Story.{EndsWithFault, GoesOn, Story}
 use Rattle.cr_outside.specs.declared.story.Outcome.{Outcome}
 use Rattle.cr_outside.specs.declared.story.Outcome.TheVariants as outcome
 use Rattle.cr_outside.proofs.Stories.{goes_nowhere}
 use Rattle.cr_reduce.specs.Bench.{Judging}
-use Rattle.cr_reduce.specs.Bound.{HasLevels, enough_turns}
+use Rattle.cr_reduce.specs.Bound.{HasLevels}
 use Rattle.cr_reduce.specs.Ends.{FaultsWithCause}
 use Rattle.cr_reduce.specs.declared.end.End.{End}
 use Rattle.cr_main_task.specs.Bound.{AsksBound, BoundEnded, HasAllBound, HasReducedBound, KeepsBound, PromisesBound}
 use Rattle.cr_main_task.specs.Bound.AsksBound.{bound_asks, bound_asks_nothing}
 use Rattle.cr_main_task.specs.Bound.BoundEnded.{bound_finished, bound_untested}
 use Rattle.cr_main_task.specs.Bound.KeepsBound.{bound_kept, bound_unchanged}
-use Rattle.cr_main_task.specs.Headline.{HasAll, enough_for}
+use Rattle.cr_main_task.specs.Headline.{HasAll}
 use Rattle.cr_main_task.specs.Headline.TaskEnded.{finished, untested}
 use Rattle.cr_main_task.specs.Opening.{IsOpened, Ruled, RunsBound, read_of}
 use Rattle.cr_main_task.specs.Opening.RunsBound.{not_opened, on_bytes}
@@ -101,18 +101,18 @@ module _ (law : Ruled) (at : List ℕ → Task) (By : List ℕ → Claiming) (na
     -- with all that it needs it ends with 0, or for want of memory
     pub bound_free : (told_of : (bytes : List ℕ) (since now : Judging) (read : List ℕ) (end : End) → (By bytes).Claims since now read end → IsToldReduction (at bytes) read end)
         (lawful_of : (bytes file : List ℕ) → (at bytes).search.Lawful file → law.Lawful file) (levels : ℕ → ℕ) → ((bytes : List ℕ) → HasLevels (at bytes).search.Offers levels)
-        → ((n size : ℕ) → size ≤ 12 * n → enough_turns levels size ≤ enough_for n) → ((bytes file : List ℕ) → (at bytes).search.Tells file true → (at bytes).search.Tells file false → ⊥)
-        → HasAllBound at text old new before after → RunsBound law at By name text old new before after status → IsFree status
-    bound_free told_of lawful_of levels has enough apart all (not_opened (not_there lacks files calls said) quiet) = absurd (all.2.here lacks)
-    bound_free told_of lawful_of levels has enough apart all (not_opened (ruled_out reason b there unlawful against files calls said) quiet) =
+        → ((bytes file : List ℕ) → (at bytes).search.Tells file true → (at bytes).search.Tells file false → ⊥)
+        → HasAllBound levels at text old new before after → RunsBound law at By name text old new before after status → IsFree status
+    bound_free told_of lawful_of levels has apart all (not_opened (not_there lacks files calls said) quiet) = absurd (all.2.here lacks)
+    bound_free told_of lawful_of levels has apart all (not_opened (ruled_out reason b there unlawful against files calls said) quiet) =
         absurd (unlawful (subst law.Lawful (sym (all.2.there b there)) (lawful_of all.0 all.2.bytes all.2.lawful)))
-    bound_free told_of lawful_of levels has enough apart all (not_opened (unread rose files calls said) quiet) = absurd (all.2.no_file_fault rose)
-    bound_free told_of lawful_of levels has enough apart all (not_opened (unopened files calls mute is) quiet) = inr is
-    bound_free told_of lawful_of levels has enough apart all (on_bytes b read opened run) =
+    bound_free told_of lawful_of levels has apart all (not_opened (unread rose files calls said) quiet) = absurd (all.2.no_file_fault rose)
+    bound_free told_of lawful_of levels has apart all (not_opened (unopened files calls mute is) quiet) = inr is
+    bound_free told_of lawful_of levels has apart all (on_bytes b read opened run) =
         let bytes = all.0 in
         let it = all.2 in
         let same : b ≡ bytes = it.there b opened.has ∙ sym (it.there bytes all.1) in
-        let here : HasAll (at bytes) (read_of text bytes) old new before after = record {
+        let here : HasAll levels (at bytes) (read_of text bytes) old new before after = record {
           bytes = it.bytes;
           there = λ other is. is ∙ it.there bytes all.1;
           here = λ never. never;
@@ -124,7 +124,7 @@ module _ (law : Ruled) (at : List ℕ → Task) (By : List ℕ → Claiming) (na
           no_judge_fault = it.no_judge_fault;
           enough = it.enough;
         } in
-        task_free (at bytes) (By bytes) (told_of bytes) (cause_of bytes) (read_of text bytes) old new before after here levels (has bytes) enough (apart bytes) status
+        task_free (at bytes) (By bytes) (told_of bytes) (cause_of bytes) (read_of text bytes) old new before after levels here (has bytes) (apart bytes) status
         (subst (λ x. RunsBy (at x) (By x) (read_of text x) old new before after status) same (on_task b read opened run))
 
 -- what the test is asked, where variants are tried by epochs

@@ -1,5 +1,7 @@
 -- Completeness, from what a run comes to.
-use Rattle.std.proofs.Common.{◌≡◌, ◌⊎◌, inl, inr, ◌*◌, ◌≤◌, ℕ, Bool, true, false, List, length, Option, Some, None, refl, sym, subst, arith}
+use Rattle.std.proofs.Common.{◌≡◌, ◌⊎◌, inl, inr, ◌+◌, ◌*◌, ◌≤◌, ℕ, Bool, true, false, List, length, Option, Some, None, refl, sym, subst, arith}
+use Rattle.std.proofs.Math.Nat.{mul-le-mul}
+use Rattle.cr_cursor.specs.Variants.{pass_count}
 use Rattle.cr_outside.proofs.Counts.{rose_earlier}
 use Rattle.cr_outside.specs.Question.{AnswersAsTold}
 use Rattle.cr_outside.specs.declared.judge.Answer.TheVariants.{No}
@@ -7,7 +9,7 @@ use Rattle.cr_reduce.specs.Bench.{GoesOn, Judging, RoseAt}
 use Rattle.cr_reduce.specs.declared.end.End.{End}
 use Rattle.cr_reduce.specs.declared.end.Why.{Why}
 use Rattle.cr_reduce.specs.declared.end.Why.TheVariants.{Fixed, Limit, Fault, NoMemory}
-use Rattle.cr_reduce.specs.Bound.{HasLevels, enough_turns}
+use Rattle.cr_reduce.specs.Bound.{HasLevels, enough_turns, levels_below}
 use Rattle.cr_reduce.specs.Ends.{EndsToldBy, FaultsWithCause, outcome_of}
 use Rattle.cr_reduce.specs.Reduction.{Within, none_fails}
 use Rattle.cr_reduce.specs.Search.{AcceptsAsTold, ReducesFileAsTold, RejectsAsTold, Search}
@@ -36,6 +38,19 @@ fewer_within : (limit : Option ℕ) (m n : ℕ) → m ≤ n → Within limit n �
 fewer_within None m n less within = tt
 fewer_within (Some most) m n less within = omega arith
 
+-- what is enough for the size is enough for the bytes
+sum_less : (a b c d : ℕ) → a ≤ b → c ≤ d → a + c ≤ b + d
+sum_less a b c d first second = omega (arith, first, second)
+
+enough_more : (all n size : ℕ) → size ≤ 12 * n → all * size * (size + 1) + size ≤ all * (12 * n) * (12 * n + 1) + 12 * n
+enough_more all n size small =
+    let same : all ≤ all = omega arith in
+    let rounds : size + 1 ≤ 12 * n + 1 = omega (arith, small) in
+    sum_less (all * size * (size + 1)) (all * (12 * n) * (12 * n + 1)) size (12 * n) (mul-le-mul (mul-le-mul same small) rounds) small
+
+pub bytes_enough : (levels : ℕ → ℕ) (n size : ℕ) → size ≤ 12 * n → enough_turns levels size ≤ enough_for levels n
+bytes_enough levels n size small = enough_more (levels_below levels pass_count) n size small
+
 -- a told reduction ends before a limit that is large enough
 told_in_time : (s : Search) (limit : Option ℕ) (file : List ℕ) (end : End) (why : Why) → EndsToldBy (ReducesFileAsTold s file) file limit end why
     → (levels : ℕ → ℕ) (size : ℕ) → HasLevels s.Offers levels → HasSize file size → Within limit (enough_turns levels size) → why ≡ Limit → ⊥
@@ -48,8 +63,7 @@ told_in_time s limit file end NoMemory run levels size has sized enough is = cc
 -- A run of a task with all it needs, whose passes have these levels, and whose test doesn't tell both answers. What is claimed of its
 -- reduction is the told one, and each fault has its cause.
 module _ (t : Task) (By : Claiming) (told_of : (since now : Judging) (bytes : List ℕ) (end : End) → By.Claims since now bytes end → IsToldReduction t bytes end)
-    (cause_of : (since now : Judging) (bytes : List ℕ) (end : End) → By.Claims since now bytes end → FaultsWithCause t.search since now end.why) (text : Text) (old new : Outside) (before after : Judging) (all : HasAll t text old new before after) (levels : ℕ → ℕ) (has : HasLevels t.search.Offers levels)
-    (bytes_enough : (n size : ℕ) → size ≤ 12 * n → enough_turns levels size ≤ enough_for n)
+    (cause_of : (since now : Judging) (bytes : List ℕ) (end : End) → By.Claims since now bytes end → FaultsWithCause t.search since now end.why) (text : Text) (old new : Outside) (before after : Judging) (levels : ℕ → ℕ) (all : HasAll levels t text old new before after) (has : HasLevels t.search.Offers levels)
     (apart : (file : List ℕ) → t.search.Tells file true → t.search.Tells file false → ⊥) where
   file_never_fails : {bytes : List ℕ} (saves : Bool) (read : Outside) (name : List ℕ) (status : ℕ) → old.file_faults ≤ read.file_faults → Fails saves read new name bytes status → IsFree status
   file_never_fails saves read name status later (call_failed on rose calls said) = absurd (all.no_file_fault (rose_earlier old.file_faults read.file_faults new.file_faults later rose))
@@ -71,8 +85,8 @@ module _ (t : Task) (By : Claiming) (told_of : (since now : Judging) (bytes : Li
   never_limit : (since : Judging) (bytes : List ℕ) (end : End) (size : ℕ) → bytes ≡ all.bytes → HasSize bytes size → By.Claims since after bytes end → end.why ≡ Limit → ⊥
   never_limit since bytes end size is sized claims =
       told_in_time t.search t.limit bytes end end.why ((told_of since after bytes end claims).reduction all.all_told) levels size has sized
-      (fewer_within t.limit (enough_turns levels size) (enough_for (length bytes)) (bytes_enough (length bytes) size (size_by_length bytes size sized))
-      (subst (λ b. Within t.limit (enough_for (length b))) (sym is) all.enough))
+      (fewer_within t.limit (enough_turns levels size) (enough_for levels (length bytes)) (bytes_enough levels (length bytes) size (size_by_length bytes size sized))
+      (subst (λ b. Within t.limit (enough_for levels (length b))) (sym is) all.enough))
 
   end_free : (since : Judging) (reason : Why) → GoesOn before since → (reason ≡ Limit → ⊥) → FaultsWithCause t.search since after reason → IsFree (end_status reason)
   end_free since Fixed on limit cause = inl refl

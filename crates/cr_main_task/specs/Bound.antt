@@ -32,9 +32,9 @@ pub data AsksBound (at : List ℕ → Task) (text : Text) (before after : Judgin
   bound_asks_nothing : after ≡ before → AsksBound at text before after
   bound_asks : (bytes : List ℕ) → text.Has bytes → AsksOnlyOf (at bytes) (read_of text bytes) before after → AsksBound at text before after
 
--- a run has all that it needs: the task of the bytes that the file has
-abbrev pub HasAllBound : (List ℕ → Task) → Text → Outside → Outside → Judging → Judging → Type 0
-HasAllBound at text old new before after = (bytes : List ℕ) × text.Has bytes × HasAll (at bytes) text old new before after
+-- a run has all that it needs, whose passes have so many levels: the task of the bytes that the file has
+abbrev pub HasAllBound : (ℕ → ℕ) → (List ℕ → Task) → Text → Outside → Outside → Judging → Judging → Type 0
+HasAllBound levels at text old new before after = (bytes : List ℕ) × text.Has bytes × HasAll levels (at bytes) text old new before after
 
 -- What every such run promises, whatever is claimed of its reduction.
 pub record PromisesBound (at : List ℕ → Task) (By : List ℕ → Claiming) (text : Text) (old new : Outside) (before after : Judging) (status : ℕ) : Type 0 where

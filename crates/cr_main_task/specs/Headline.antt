@@ -1,10 +1,12 @@
 -- What a run promises, in a few words: each follows from what it comes to, step by step.
 use Rattle.std.specs.Prelude.{◌≡◌, ◌≢◌, ◌+◌, ◌*◌, ℕ, true, List, Option, length}
+use Rattle.cr_cursor.specs.Variants.{pass_count}
 use Rattle.cr_log.specs.Texts.{log_text_of, summary_text_of}
 use Rattle.cr_outside.specs.Faults.{Rose}
 use Rattle.cr_outside.specs.Files.{Names, put_told}
 use Rattle.cr_outside.specs.Sink.{appended}
 use Rattle.cr_reduce.specs.Bench.{AsksAtMost, CallsAbout, Judging, RoseAt}
+use Rattle.cr_reduce.specs.Bound.{levels_below}
 use Rattle.cr_reduce.specs.declared.end.End.{End}
 use Rattle.cr_reduce.specs.declared.end.Why.TheVariants as why
 use Rattle.cr_reduce.specs.Ends.{EndsAsTold, IsFixedAsTold, most_calls, outcome_of}
@@ -84,13 +86,13 @@ pub data KeepsTask (t : Task) (By : Claiming) (text : Text) (old new : Outside) 
   -- the reduction was not begun
   task_copied : (bytes : List ℕ) → t.saves ≡ true → text.Has bytes → new.files ≡ put_told (copy_name t.name) bytes old.files → KeepsTask t By text old new after
 
--- so many turns are enough for a file of n bytes
-abbrev pub enough_for : ℕ → ℕ
-enough_for n = 504 * n * (12 * n + 1) + 12 * n
+-- so many turns are enough for a file of n bytes, where each pass has so many levels: of 42 levels in all, 504 * n * (12 * n + 1) + 12 * n
+abbrev pub enough_for : (ℕ → ℕ) → ℕ → ℕ
+enough_for levels n = levels_below levels pass_count * (12 * n) * (12 * n + 1) + 12 * n
 
 -- A run of a task that has all it needs: the file is there and obeys the law, the test's answers are told, and yes to the
--- file, no call on the outside fails, and the limit is absent or large enough.
-pub record HasAll (t : Task) (text : Text) (old new : Outside) (before after : Judging) : Type 0 where
+-- file, no call on the outside fails, and the limit is absent or large enough for passes of so many levels.
+pub record HasAll (levels : ℕ → ℕ) (t : Task) (text : Text) (old new : Outside) (before after : Judging) : Type 0 where
   pub bytes : List ℕ
   -- the file has these bytes and no other ones
   pub there : (other : List ℕ) → text.Has other → other ≡ bytes
@@ -101,7 +103,7 @@ pub record HasAll (t : Task) (text : Text) (old new : Outside) (before after : J
   pub no_file_fault : Rose old.file_faults new.file_faults → ⊥
   pub no_output_fault : Rose old.output_faults new.output_faults → ⊥
   pub no_judge_fault : (worker : ℕ) → RoseAt worker before.faults after.faults → ⊥
-  pub enough : Within t.limit (enough_for (length bytes))
+  pub enough : Within t.limit (enough_for levels (length bytes))
 
 -- What the test is asked in a run of a task: nothing, or once at most about the file, and then about nothing but smaller,
 -- lawful variants of the files of the run's own chain, each time under the file's own name, and no more often than the reduction's

@@ -1,11 +1,12 @@
 -- What words ask for: one thing at most, and a plain reduction where no flag stands.
-use Rattle.std.proofs.Common.{◌≡◌, ◌↔◌, ℕ, Bool, true, false, List, ◌∷◌, codes, inl, inr, refl, sym, ap, ap₂, ◌∙◌, subst, arith}
-use Rattle.cr_main_words.specs.Flags.{GivesModes, is_journal, is_resume, is_standing, once_if, plain_modes, rest_of, times}
+use Rattle.std.proofs.Common.{◌≡◌, ◌↔◌, ℕ, Bool, true, false, Option, None, Some, List, length, [], ◌∷◌, codes, inl, inr, refl, sym, ap, ap₂, ◌∙◌, subst, arith}
+use Rattle.std.proofs.lemmas.Bool.{false≢true}
+use Rattle.cr_main_words.specs.Flags.{GivesLabel, GivesModes, first_label, flag_words, is_identifier, is_journal, is_resume, is_standing, label_count, once_if, plain_modes, rest_of, times}
 use Rattle.cr_main_words.specs.Giving.{HasSettings}
 use Rattle.cr_main_words.specs.Laws.{SameSource}
 use Rattle.cr_main_words.specs.RequestLaws.{HasNoFlag, SameRequest}
 use Rattle.cr_main_words.specs.Requests.{Asks, AsksNothing, HasReduction, HasReplay, IsOfFile, IsReplay, Suits}
-use Rattle.cr_main_words.specs.Words.{Word}
+use Rattle.cr_main_words.specs.Words.{IsAmong, Word}
 use Rattle.cr_main_words.specs.declared.modes.Engine.{Engine}
 use Rattle.cr_main_words.specs.declared.modes.Engine.TheVariants as engine
 use Rattle.cr_main_words.specs.declared.modes.Modes.{Modes}
@@ -45,6 +46,38 @@ one_engine engine.Standing engine.Plain j r s = cc
 one_engine engine.Standing engine.Journal j r s = cc
 one_engine engine.Standing engine.Resume j r s = cc
 
+-- a label too
+one_label : (words : List Word) (a b : Option Word) → GivesLabel words a → GivesLabel words b → a ≡ b
+one_label words None None first second = refl
+one_label words None (Some name) first second = absurd (omega (arith, first, second.0))
+one_label words (Some name) None first second = absurd (omega (arith, first.0, second))
+one_label words (Some name) (Some other) first second = sym first.1 ∙ second.1
+
+-- ---- words that give no label
+
+pub no_label : (words : List Word) → label_count words ≡ 1 → first_label words ≡ None → (label : Option Word) → GivesLabel words label → ⊥
+no_label words one none None given = omega (arith, one, given)
+no_label words one none (Some name) given = let both : Some name ≡ None = sym given.1 ∙ none in absurd (cc)
+
+pub unread_label : (words : List Word) (name : Word) → label_count words ≡ 1 → first_label words ≡ Some name → is_identifier name ≡ false → (label : Option Word) → GivesLabel words label → ⊥
+unread_label words name one found unread None given = omega (arith, one, given)
+unread_label words name one found unread (Some other) given =
+    let both : Some name ≡ Some other = sym found ∙ given.1 in
+    let same : name ≡ other = cc in false≢true (sym unread ∙ ap is_identifier same ∙ given.2)
+
+pub many_labels : (words : List Word) → (label_count words ≡ 0 → ⊥) → (label_count words ≡ 1 → ⊥) → (label : Option Word) → GivesLabel words label → ⊥
+many_labels words some more None given = some given
+many_labels words some more (Some name) given = more given.0
+
+-- no bytes are no identifier
+pub no_bytes : (name : Word) → length name ≡ 0 → false ≡ is_identifier name
+no_bytes [] none = refl
+no_bytes (byte ∷ more) none = absurd (omega (arith, none))
+
+-- words that give one
+pub read_label : (words : List Word) (name row : Word) → label_count words ≡ 1 → first_label words ≡ Some name → is_identifier name ≡ true → row ≡ name → GivesLabel words (Some row)
+read_label words name row one found read is = (one, found ∙ ap Some (sym is), ap is_identifier is ∙ read)
+
 pub one_modes : (words : List Word) (a b : Modes) → GivesModes words a → GivesModes words b → a ≡ b
 one_modes words a b first second =
     let engines = one_engine a.engine b.engine
@@ -52,8 +85,9 @@ one_modes words a b first second =
     (one_answer (is_resume a.engine) (is_resume b.engine) (sym first.resume ∙ second.resume))
     (one_answer (is_standing a.engine) (is_standing b.engine) (sym first.standing ∙ second.standing)) in
     let orders = one_answer a.any_order b.any_order (sym first.any_order ∙ second.any_order) in
-    let made : Engine → Bool → Modes = λ e o. record { engine = e; any_order = o } in
-    ap₂ made engines orders
+    let labels = one_label words a.reached b.reached first.reached second.reached in
+    let made : Engine → Bool → Option Word → Modes = λ e o l. record { engine = e; any_order = o; reached = l } in
+    ap₂ (λ e o. made e o a.reached) engines orders ∙ ap (made b.engine b.any_order) labels
 
 -- ---- an engine that suits a source suits what is alike
 
@@ -98,7 +132,7 @@ one_request words most (request.Replay a) (request.Replay b) first second =
 
 -- ---- without a flag
 
-no_flag : (words : List Word) → GivesModes words plain_modes → HasNoFlag words
+no_flag : (words : List Word) → GivesModes words plain_modes → (flag : Word) → IsAmong flag flag_words → times flag words ≡ 0
 no_flag words given flag (inl is) = ap (λ f. times f words) is ∙ given.journal
 no_flag words given flag (inr (inl is)) = ap (λ f. times f words) is ∙ given.resume
 no_flag words given flag (inr (inr (inl is))) = ap (λ f. times f words) is ∙ given.standing
@@ -109,15 +143,16 @@ no_flag words given flag (inr (inr (inr (inr more)))) = absurd more
 pub plain_reduction : (words : List Word) (most : ℕ) (settings : Settings)
     → Asks words most (request.Reduction settings plain_modes) ↔ (HasNoFlag words × HasSettings words most settings)
 plain_reduction words most settings = (
-  λ asks. let none = no_flag words asks.flags in (none, subst (λ w. HasSettings w most settings) (stays words none) asks.rest),
+  λ asks. let none = no_flag words asks.flags in ((none, asks.flags.reached), subst (λ w. HasSettings w most settings) (stays words none asks.flags.reached) asks.rest),
   λ it. record {
     flags = record {
-      journal = it.0 (codes "--journal") (inl refl);
-      resume = it.0 (codes "--resume") (inr (inl refl));
-      standing = it.0 (codes "--standing") (inr (inr (inl refl)));
-      any_order = it.0 (codes "--any-order") (inr (inr (inr (inl refl))));
+      journal = it.0.0 (codes "--journal") (inl refl);
+      resume = it.0.0 (codes "--resume") (inr (inl refl));
+      standing = it.0.0 (codes "--standing") (inr (inr (inl refl)));
+      any_order = it.0.0 (codes "--any-order") (inr (inr (inr (inl refl))));
+      reached = it.0.1;
     };
-    rest = subst (λ w. HasSettings w most settings) (sym (stays words it.0)) it.1;
+    rest = subst (λ w. HasSettings w most settings) (sym (stays words it.0.0 it.0.1)) it.1;
     suits = tt;
   },
 )

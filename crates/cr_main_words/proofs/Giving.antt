@@ -15,7 +15,7 @@ use Rattle.cr_outside.specs.declared.test.Test.TheVariants as test
 use Rattle.cr_main_words.specs.Giving.{GivesSettings, HasSettings}
 use Rattle.cr_main_words.specs.Laws.{Agree, SameSettings, SameSource}
 use Rattle.cr_main_words.specs.Letters.{IsEnabled, IsLetters, has_letter, pass_letters}
-use Rattle.cr_main_words.specs.Letters.IsEnabled.{all_passes, some_passes}
+use Rattle.cr_main_words.specs.Letters.IsEnabled.{plain_passes, some_passes}
 use Rattle.cr_main_words.specs.Names.{IsGenerated, IsSource}
 use Rattle.cr_main_words.specs.Names.IsNoName.{made}
 use Rattle.cr_main_words.specs.Numbers.{IsNumber, IsNumberOr, IsOptional}
@@ -83,7 +83,7 @@ letters_plain word enabled it begins =
     let bad : false ≡ true = subst (λ w. list_all (has_letter pass_letters) w ≡ true) begins.1 it.known in cc
 
 pub enabled_plain : (values : List Word) (enabled : List Bool) → IsEnabled values enabled → NoMinus values
-enabled_plain _ _ all_passes = tt
+enabled_plain _ _ plain_passes = tt
 enabled_plain _ _ (some_passes {word = word} {enabled = enabled} it) = (letters_plain word enabled it, tt)
 
 plain_at : (values : Word → List Word) (places : List Word) (most : ℕ) (settings : Settings) → GivesSettings values places most settings
@@ -139,7 +139,7 @@ one_count without least most values a b first second =
     first.2 ∙ ap (λ g. unwrap_or g without) (one_optional least most values first.0 second.0 first.1 second.1) ∙ sym second.2
 
 pub one_enabled : (values : List Word) (a b : List Bool) → IsEnabled values a → IsEnabled values b → a ≡ b
-one_enabled _ _ _ all_passes all_passes = refl
+one_enabled _ _ _ plain_passes plain_passes = refl
 one_enabled _ _ _ (some_passes first) (some_passes second) = first.is ∙ sym second.is
 
 one_generated : (word : Word) (number items other more : ℕ) → IsGenerated word number items → IsGenerated word other more → (number ≡ other) × (items ≡ more)

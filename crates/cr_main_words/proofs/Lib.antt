@@ -6,6 +6,7 @@ pub mod Walks
 pub mod App
 pub mod Results
 pub mod Uses
+pub mod Enabling
 pub mod NameLemmas
 pub mod Giving
 pub mod Replaying

@@ -1,12 +1,14 @@
 -- The words before the first --, and those without the flags.
-use Rattle.std.proofs.Common.{◌≡◌, ◌+◌, ◌||◌, ℕ, Bool, true, false, not, List, [], ◌∷◌, ◌++◌, codes, cond, drop, filter, length, map, nat_lt, take, Some, None, String, string_bytes, unwrap_or, inl, inr, refl, sym, ap, ◌∙◌, subst, arith}
+use Rattle.std.proofs.Common.{◌≡◌, ◌+◌, ◌||◌, ℕ, Bool, true, false, not, List, [], ◌∷◌, ◌++◌, codes, cond, drop, filter, length, map, nat_lt, take, slice_get, get_or, ◌<◌, ◌≤◌, Option, Some, None, String, string_bytes, unwrap_or, inl, inr, refl, sym, ap, ◌∙◌, subst, arith}
 use Rattle.std.specs.List.{count_by, position, position_or_len}
+use Rattle.std.specs.Option.{option_map}
 use Rattle.std.specs.Str.{bytes_eq}
 use Rattle.std.specs.Global.{Global}
 use Rattle.std.proofs.lemmas.Bool.Decides.{nat_tests}
 use Rattle.std.proofs.lemmas.List.{drop-map, take-append-drop, take-map}
+use Rattle.std.proofs.lemmas.Option.{slice_get-map, slice_get_past, slice_get_read}
 use Rattle.std.proofs.lemmas.List.Sums.{prefix_len-le-length, sum_by-cons, take_while-cons}
-use Rattle.cr_main_words.specs.Flags.{flag_words, from_end, in_front, is_end, is_flag, rest_of, times}
+use Rattle.cr_main_words.specs.Flags.{flag_words, from_end, in_front, is_end, is_flag, is_labelled, first_label, label_count, rest_of, times}
 use Rattle.cr_main_words.specs.Words.{IsAmong, Said, Tells, Word, option_names, texts_of}
 use Rattle.cr_main_words.proofs.Results.{fit_names}
 use Rattle.cr_main_words.proofs.Scan.{scan, told_is_read}
@@ -48,37 +50,66 @@ rest_is list now others behind end all last first is =
     let back = ap texts_of last ∙ sym (behind_is list end is) in
     all ∙ ap (λ t. t ++ texts_of behind) front ∙ ap (λ t. filter (λ w. not (is_flag w)) (in_front (texts_of list)) ++ t) back
 
+-- ---- the label
+
+-- the first word with a label, among those in front
+pub label_at : (list front : List (String Global)) (at : ℕ) → in_front (texts_of list) ≡ texts_of front → at ≡ position_or_len (λ word. is_labelled (string_bytes word)) front
+    → first_label (texts_of list) ≡ option_map (λ word. drop 10 (string_bytes word)) (slice_get front at)
+label_at list front at front_is at_is =
+    ap (λ words. option_map (λ word. drop 10 word) (slice_get words (position_or_len is_labelled words))) front_is
+    ∙ ap (λ n. option_map (λ word. drop 10 word) (slice_get (texts_of front) n)) (position_or_len-map string_bytes is_labelled front ∙ sym at_is)
+    ∙ ap (option_map (λ word. drop 10 word)) (slice_get-map string_bytes front at) ∙ twice (slice_get front at)
+  where
+    twice : (o : Option (String Global)) → option_map (λ word. drop 10 word) (option_map string_bytes o) ≡ option_map (λ word. drop 10 (string_bytes word)) o
+    twice None = refl
+    twice (Some word) = refl
+
+-- what that word has behind the flag is the label
+pub label_is : (list front : List (String Global)) (at : ℕ) (word : String Global) (label : List ℕ) → in_front (texts_of list) ≡ texts_of front
+    → at ≡ position_or_len (λ word. is_labelled (string_bytes word)) front → at < length front → word ≡ get_or front at word → label ≡ drop 10 (string_bytes word)
+    → first_label (texts_of list) ≡ Some label
+label_is list front at word label front_is at_is low is behind =
+    label_at list front at front_is at_is ∙ ap (option_map (λ word. drop 10 (string_bytes word))) (slice_get_read front (length front) at word refl low is) ∙ ap Some (sym behind)
+
+-- where there is no such word there is none
+pub label_none : (list front : List (String Global)) (at : ℕ) → in_front (texts_of list) ≡ texts_of front → at ≡ position_or_len (λ word. is_labelled (string_bytes word)) front
+    → length front ≤ at → first_label (texts_of list) ≡ None
+label_none list front at front_is at_is past = label_at list front at front_is at_is ∙ ap (option_map (λ word. drop 10 (string_bytes word))) (slice_get_past front at past)
+
 -- ---- where no word is a flag
 
-stands_not : (x : Word) (xs : List Word) (flag : Word) → count_by (λ w. bytes_eq w flag) (x ∷ xs) ≡ 0
-    → (bytes_eq x flag ≡ false) × (count_by (λ w. bytes_eq w flag) xs ≡ 0)
-stands_not x xs flag none = by (bytes_eq x flag) refl (sym (sum_by-cons (λ w. cond (bytes_eq w flag) 1 0) x xs) ∙ none)
+none_passes : (test : Word → Bool) (x : Word) (xs : List Word) → count_by test (x ∷ xs) ≡ 0 → (test x ≡ false) × (count_by test xs ≡ 0)
+none_passes test x xs none = by (test x) refl (sym (sum_by-cons (λ w. cond (test w) 1 0) x xs) ∙ none)
   where
-    by : (t : Bool) → bytes_eq x flag ≡ t → cond t 1 0 + count_by (λ w. bytes_eq w flag) xs ≡ 0
-        → (bytes_eq x flag ≡ false) × (count_by (λ w. bytes_eq w flag) xs ≡ 0)
+    by : (t : Bool) → test x ≡ t → cond t 1 0 + count_by test xs ≡ 0 → (test x ≡ false) × (count_by test xs ≡ 0)
     by true e sum = absurd (omega arith)
     by false e sum = (e, omega arith)
 
-none_of_four : (a b c d : Bool) → a ≡ false → b ≡ false → c ≡ false → d ≡ false → (a || (b || (c || (d || false)))) ≡ false
-none_of_four a b c d p q r s = rw (p, q, r, s) refl
+stands_not : (x : Word) (xs : List Word) (flag : Word) → count_by (λ w. bytes_eq w flag) (x ∷ xs) ≡ 0
+    → (bytes_eq x flag ≡ false) × (count_by (λ w. bytes_eq w flag) xs ≡ 0)
+stands_not x xs flag none = none_passes (λ w. bytes_eq w flag) x xs none
+
+none_of_five : (a b c d e : Bool) → a ≡ false → b ≡ false → c ≡ false → d ≡ false → e ≡ false → ((a || (b || (c || (d || false)))) || e) ≡ false
+none_of_five a b c d e p q r s t = rw (p, q, r, s, t) refl
 
 abbrev HasNone : List Word → Type 0
 HasNone xs = (flag : Word) → IsAmong flag flag_words → count_by (λ w. bytes_eq w flag) xs ≡ 0
 
-keeps_all : (xs : List Word) → HasNone xs → filter (λ w. not (is_flag w)) xs ≡ xs
-keeps_all [] none = refl
-keeps_all (x ∷ xs) none =
+keeps_all : (xs : List Word) → HasNone xs → count_by is_labelled xs ≡ 0 → filter (λ w. not (is_flag w)) xs ≡ xs
+keeps_all [] none unlabelled = refl
+keeps_all (x ∷ xs) none unlabelled =
+    let label = none_passes is_labelled x xs unlabelled in
     let at = λ (flag : Word) (among : IsAmong flag flag_words). stands_not x xs flag (none flag among) in
     let other : is_flag x ≡ false =
-    none_of_four (bytes_eq x (codes "--journal")) (bytes_eq x (codes "--resume")) (bytes_eq x (codes "--standing")) (bytes_eq x (codes "--any-order"))
+    none_of_five (bytes_eq x (codes "--journal")) (bytes_eq x (codes "--resume")) (bytes_eq x (codes "--standing")) (bytes_eq x (codes "--any-order")) (is_labelled x)
     (at (codes "--journal") (inl refl)).0 (at (codes "--resume") (inr (inl refl))).0 (at (codes "--standing") (inr (inr (inl refl)))).0
-    (at (codes "--any-order") (inr (inr (inr (inl refl))))).0 in
+    (at (codes "--any-order") (inr (inr (inr (inl refl))))).0 label.0 in
     ap (λ t. cond (not t) (x ∷ filter (λ w. not (is_flag w)) xs) (filter (λ w. not (is_flag w)) xs)) other
-    ∙ ap (λ more. x ∷ more) (keeps_all xs (λ flag among. (at flag among).1))
+    ∙ ap (λ more. x ∷ more) (keeps_all xs (λ flag among. (at flag among).1) label.1)
 
 -- without a flag the words are as they stand
-pub stays : (words : List Word) → ((flag : Word) → IsAmong flag flag_words → times flag words ≡ 0) → rest_of words ≡ words
-stays words none = ap (λ front. front ++ from_end words) (keeps_all (in_front words) none) ∙ take-append-drop (position_or_len is_end words) words
+pub stays : (words : List Word) → ((flag : Word) → IsAmong flag flag_words → times flag words ≡ 0) → label_count words ≡ 0 → rest_of words ≡ words
+stays words none unlabelled = ap (λ front. front ++ from_end words) (keeps_all (in_front words) none unlabelled) ∙ take-append-drop (position_or_len is_end words) words
 
 -- ---- a first word --replay
 

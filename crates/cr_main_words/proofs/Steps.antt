@@ -1,5 +1,5 @@
 -- One word more: what clap's walk makes of it, where it stands on a use that is whole, or on an option without its value.
-use Rattle.std.proofs.Common.{◌≡◌, ◌&&◌, ℕ, Bool, true, false, List, [], ◌∷◌, cond, Option, Some, None, refl}
+use Rattle.std.proofs.Common.{◌≡◌, ℕ, Bool, true, false, List, [], ◌∷◌, cond, Option, Some, None, refl}
 use Rattle.std.specs.Str.{bytes_eq, chars}
 use Rattle.std.specs.Prelude.{slice_get}
 use Rattle.clap.specs.Lexer.{long_of, short_of}

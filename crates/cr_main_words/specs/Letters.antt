@@ -5,7 +5,11 @@ use Rattle.cr_main_words.specs.Words.{Word}
 
 -- the passes, in the order in which they run
 abbrev pub pass_letters : List ℕ
-pass_letters = codes "ltbusciprf"
+pass_letters = codes "ltbusciprfvo"
+
+-- those that are on without the option: v and o are off unless asked for
+abbrev pub plain_letters : List ℕ
+plain_letters = codes "ltbusciprf"
 
 abbrev pub has_letter : List ℕ → ℕ → Bool
 has_letter word letter = list_any (λ x. x == letter) word
@@ -22,7 +26,7 @@ pub record IsLetters (word : Word) (enabled : List Bool) : Type 0 where
   pub different : are_different word ≡ true
   pub is : enabled ≡ map (has_letter word) pass_letters
 
--- the values of the option: without it all passes are enabled, and it comes once at most
+-- the values of the option: without it all passes but v and o are enabled, and it comes once at most
 pub data IsEnabled : List Word → List Bool → Type 0 where
-  all_passes : IsEnabled [] (map (λ letter. true) pass_letters)
+  plain_passes : IsEnabled [] (map (has_letter plain_letters) pass_letters)
   some_passes : {word : Word} {enabled : List Bool} → IsLetters word enabled → IsEnabled (word ∷ []) enabled

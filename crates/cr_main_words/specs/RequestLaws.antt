@@ -1,7 +1,7 @@
 -- Laws of what words ask for.
 use Rattle.std.specs.Prelude.{◌≡◌, ◌↔◌, ℕ, List}
 use Rattle.std.specs.String.{string_bytes}
-use Rattle.cr_main_words.specs.Flags.{flag_words, plain_modes, times}
+use Rattle.cr_main_words.specs.Flags.{flag_words, label_count, plain_modes, times}
 use Rattle.cr_main_words.specs.Giving.{HasSettings}
 use Rattle.cr_main_words.specs.Laws.{SameSettings}
 use Rattle.cr_main_words.specs.Requests.{Asks}
@@ -28,9 +28,9 @@ SameRequest _ _ = ⊥
 abbrev pub HasOneRequest : Type 0
 HasOneRequest = (words : List Word) (most : ℕ) (a b : Request) → Asks words most a → Asks words most b → SameRequest a b
 
--- no flag stands before the first --
+-- no flag stands before the first --, and no word asks for a label
 abbrev pub HasNoFlag : List Word → Type 0
-HasNoFlag words = (flag : Word) → IsAmong flag flag_words → times flag words ≡ 0
+HasNoFlag words = ((flag : Word) → IsAmong flag flag_words → times flag words ≡ 0) × (label_count words ≡ 0)
 
 -- words ask for a plain reduction exactly where they have no flag, and give its settings as they stand
 abbrev pub HasPlainReductions : Type 0

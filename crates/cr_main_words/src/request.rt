@@ -49,9 +49,7 @@ fn reduction_of(alloc: Global, list: &[String], most: u32) -> Result<Request, Wo
     ensures request { IfOk result (Asks (texts_of list.now) most) }
     ensures usage { result ≡ Err WordFault.Usage → (settings : Settings) (modes : Modes) → HasReduction (texts_of list.now) most settings modes → ⊥ }
 {
-    let Some(modes) = modes_of(list) else {
-        return Err(WordFault::Usage);
-    };
+    let modes = modes_of(alloc, list)?;
     let Ok(rest) = rest_of(alloc, list) else {
         return Err(WordFault::NoMemory);
     };

@@ -32,7 +32,7 @@ pub struct Settings {
     /// The most steps of a program's run, 1 to 100,000,000.
     pub steps: u64,
     /// The passes l t b u s c i p r f, in this order.
-    pub enabled: [bool; 10],
+    pub enabled: [bool; 12],
     pub test: Test,
     pub source: Source,
 }

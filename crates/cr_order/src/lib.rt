@@ -18,3 +18,5 @@ pub use law::OrderLaw;
 pub use laws::{
     ordered_files_are_lawful, ordered_files_have_no_reason, ordered_files_have_one_reason,
 };
+pub use lists::outer_of;
+pub use loose::ended_in_order;

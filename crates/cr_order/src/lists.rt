@@ -33,7 +33,7 @@ fn only_list(nodes: &[Node], above: Option<u32>) -> Option<u32>
 }
 
 /// For each node the list of which it is an initialiser, where it is one.
-pub(crate) fn outer_of(alloc: Global, typed: &Typed) -> Result<Vec<Option<u32>>, AllocError>
+pub fn outer_of(alloc: Global, typed: &Typed) -> Result<Vec<Option<u32>>, AllocError>
     ensures { IfOk result (λ outer. outer.items ≡ outer_of typed.now) }
 {
     let nodes = typed.nodes.as_slice();

@@ -8,7 +8,7 @@ use cr_meaning::Run;
 pub const LEFT_BY_ORDER: u8 = 8;
 
 /// A run that ended leaves the profile where the operands of a node or a list see one another; another comes to what it came to.
-pub(crate) fn ended_in_order(run: Run, loose: Option<u32>) -> Run
+pub fn ended_in_order(run: Run, loose: Option<u32>) -> Run
     ensures { result ≡ ended_in_order run loose }
 {
     match (run, loose) {

@@ -1,16 +1,17 @@
 // The run of a program, and whether its order is fixed.
-ghost use Rattle.std.specs.Prelude.{◌≡◌, true, false};
+ghost use Rattle.std.specs.Prelude.{◌≡◌, [], true, false};
 ghost use Rattle.cr_eval.specs.Table.{program_of};
-ghost use Rattle.cr_exec.specs.Runs.{has_come, Looked};
+ghost use Rattle.cr_exec.specs.Runs.{has_come, IsWatched, Looked};
 ghost use Rattle.cr_meaning.specs.Meaning.{Means};
 ghost use Rattle.cr_meaning.specs.declared.run.Run.{Run as SpecRun};
 ghost use Rattle.cr_order_watch.specs.Judged.{IsJudged};
 ghost use Rattle.cr_meaning_loose.specs.Lists.{around};
 
+use crate::beside::Beside;
 use crate::watch::OrderWatch;
 use cr_cursor::Stop;
 use cr_eval::Table;
-use cr_exec::run_seen;
+use cr_exec::{Watch, run_seen};
 use cr_meaning::Run;
 use std::alloc::Global;
 
@@ -43,4 +44,33 @@ pub fn run_judged<S: Stop>(
         return (Run::NoMemory, None);
     }
     (run, watch.first_loose())
+}
+
+/// The same, while another watch, which knows of none yet, sees the run too. It comes back with the outcome.
+pub fn run_judged_beside<S: Stop, W: Watch>(
+    alloc: Global,
+    table: &Table,
+    outer: &[Option<u32>],
+    stop: &mut S,
+    watch: W,
+) -> (Run, Option<u32>, W)
+    requires unstopped { S.raised stop.old ≡ false }
+    requires fresh { W.knows watch (program_of table.now) [] }
+    ensures meant { has_come result.0 ≡ true → Means (program_of table.now) result.0 }
+    ensures stopped { result.0 ≡ Run.Stopped → S.raised stop.new ≡ true }
+    ensures held { S.held stop.new ≡ S.held stop.old }
+    ensures looked { Looked result.0 table.now.limits.steps (S.looks stop.old) (S.looks stop.new) }
+    ensures judged { has_come result.0 ≡ true → IsJudged (program_of table.now) (around outer.now) result.0 result.1 }
+    ensures seen { has_come result.0 ≡ true → IsWatched (W.knows result.2 (program_of table.now)) (program_of table.now) result.0 }
+{
+    let both = Beside {
+        one: OrderWatch::new(alloc, table, outer),
+        other: watch,
+    };
+    let (run, both) = run_seen(alloc, table, stop, both);
+    let Beside { one, other } = both;
+    if !is_same(one.outer(), outer) {
+        return (Run::NoMemory, None, other);
+    }
+    (run, one.first_loose(), other)
 }

@@ -1,18 +1,26 @@
 //! `creduce [--workers N] [--window N] [--limit N] [--steps N] [--passes LETTERS] TEST FILE`: reduces FILE while the test says yes, with
-//! `--journal` so that `--resume` goes on after a stop, and `creduce --replay [--steps N] [--passes LETTERS] LOG FILE` checks a log; it
-//! ends with the status of `run_more`, which see.
+//! `--journal` so that `--resume` goes on after a stop, and `creduce --replay [--steps N] [--passes LETTERS] LOG FILE` checks a log,
+//! and `creduce --report FILE.log` shows what it says; it ends with the status of `run_more`, which see.
 #![tactic(auto)]
 
-ghost use Rattle.std.specs.Prelude.{◌≡◌, IfOk, length};
-
+mod asked;
+mod folders;
+mod journal;
+mod one_run;
+mod refused;
+mod report;
+mod said;
 mod usual;
+mod version;
+mod watched;
 
-use crate::usual::with_workers;
-use cr_main::run_more;
-use cr_pool::Bench;
-use creduce_system::{ProcessJudge, Progress, Shown, StdDisk, StdOut};
+use crate::asked::asked;
+use crate::one_run::run;
+use crate::report::report;
+use crate::said::explain;
+use crate::version::version;
+use creduce_system::hold_standard;
 use std::alloc::AllocError;
-use std::io::IsTerminal;
 use std::process::ExitCode;
 use std::sync::Wait;
 use std::thread::Threads;
@@ -20,29 +28,6 @@ use std::{env, io};
 
 /// Status 11: no memory is left.
 const NO_MEMORY: u8 = 11;
-
-/// As many judges as there may be workers.
-const JUDGES: u32 = 32;
-
-// How progress is shown: not where the environment asks for quiet, as a line that is renewed on a terminal, else line by line.
-fn shown(rt: &HostRuntime) -> Shown {
-    match env::var(rt, "CREDUCE_QUIET") {
-        Ok(quiet) if quiet.as_str() == "1" => Shown::Nothing,
-        _ if rt.stderr().is_terminal() => Shown::Renewed,
-        _ => Shown::Lines,
-    }
-}
-
-fn bench<'a>(
-    rt: &'a HostRuntime,
-    progress: &'a Progress,
-) -> Result<Bench<ProcessJudge<'a, HostRuntime>>, AllocError> {
-    let mut judges = Vec::new(rt.alloc());
-    for number in 0..JUDGES {
-        judges.push(ProcessJudge::new(rt, number).noting(progress))?;
-    }
-    Bench::new(rt.alloc(), judges)
-}
 
 fn given(rt: &HostRuntime) -> io::Result<Vec<String>> {
     let mut words = Vec::new(rt.alloc());
@@ -61,28 +46,35 @@ fn words(rt: &HostRuntime) -> Result<Vec<String>, AllocError> {
     }
 }
 
-fn reduce(rt: &HostRuntime, threads: &(impl Threads + Wait + Sync)) -> Result<u8, AllocError> {
-    let words = with_workers(rt.alloc(), threads, words(rt)?)?;
-    let progress = Progress::new(rt, shown(rt));
-    let mut bench = bench(rt, &progress)?;
-    // The files, and the journal beside one of them.
-    let mut world = StdDisk::new(rt);
-    let mut out = StdOut::new(rt);
-    Ok(run_more(
-        threads,
-        rt.alloc(),
-        &words,
-        &mut world,
-        &mut bench,
-        &mut out,
-    ))
+fn answer(rt: &HostRuntime, threads: &(impl Threads + Wait + Sync)) -> Result<u8, AllocError> {
+    let words = words(rt)?;
+    if let Some(status) = asked(rt, words.as_slice())? {
+        return Ok(status);
+    }
+    if words
+        .first()
+        .is_some_and(|word| word.as_str() == "--version")
+    {
+        return version(rt);
+    }
+    if let [first, rest @ ..] = words.as_slice() {
+        if first.as_str() == "--report" {
+            return report(rt, rest);
+        }
+    }
+    let ended = run(rt, threads, &words)?;
+    explain(rt, words.as_slice(), &ended)?;
+    Ok(ended.status)
 }
 
 fn main(rt: HostRuntime) -> ExitCode {
+    // Where a standard stream is closed, no file of the run becomes it.
+    let held = hold_standard(&rt, rt.alloc());
     // The runtime comes twice: only under the bounds `Threads` and `Wait` may it make threads that wait for each other, and then it is any such type.
-    let status = match reduce(&rt, &rt) {
+    let status = match answer(&rt, &rt) {
         Ok(status) => status,
         Err(_) => NO_MEMORY,
     };
+    drop(held);
     ExitCode::from(status)
 }

@@ -25,14 +25,18 @@ fn processors(threads: &impl Threads) -> usize {
 }
 
 /// The same words, with the number of workers in front where they don't say it.
-pub(crate) fn with_workers(
+pub fn with_workers(
     alloc: Global,
     threads: &impl Threads,
-    mut words: Vec<String>,
+    words: &[String],
 ) -> Result<Vec<String>, AllocError> {
-    if !say_workers(words.as_slice()) {
+    let mut all = Vec::new(alloc);
+    if !say_workers(words) {
         let count = processors(threads).max(LEAST).min(MOST);
-        words.insert(0, format!(in alloc; "--workers={count}")?)?;
+        all.push(format!(in alloc; "--workers={count}")?)?;
     }
-    Ok(words)
+    for word in words {
+        all.push(word.clone()?)?;
+    }
+    Ok(all)
 }

@@ -11,6 +11,6 @@ abbrev pub smallest_of : Option ℕ → ℕ → ℕ
 smallest_of None bytes = bytes
 smallest_of (Some best) bytes = min bytes best
 
--- the smallest file, under the file's own name
+-- the smallest file, beside the file that is reduced
 abbrev pub best_of : List ℕ → List ℕ
-best_of name = codes "creduce-best/" ++ name
+best_of reduced = reduced ++ codes ".best"

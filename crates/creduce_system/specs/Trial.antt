@@ -14,10 +14,6 @@ use Rattle.cr_outside.specs.declared.judge.Answer.TheVariants as answer
 abbrev pub folder_of : ℕ → List ℕ
 folder_of number = codes "creduce-trial-" ++ decimal number
 
--- the variant, under the file's own name
-abbrev pub file_of : ℕ → List ℕ → List ℕ
-file_of number name = folder_of number ++ 47 ∷ name
-
 -- what the shell runs: the test, by its path from the folder that the reducer was started in, in the trial's folder
 abbrev pub script : List ℕ
 script = codes "case \"$1\" in /*) t=$1;; *) t=$(pwd)/$1;; esac; cd \"$2\" || exit 126; exec \"$t\""

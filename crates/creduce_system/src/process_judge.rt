@@ -3,24 +3,28 @@ ghost use Rattle.std.specs.Prelude.{◌≡◌, None};
 ghost use Rattle.creduce_system.specs.Trial.{Answers};
 
 use crate::progress::Progress;
-use crate::trial::Trial;
+use crate::room::Room;
+use crate::trial::{Trial, Tried};
 use cr_outside::{Answer, Judge};
 use std::alloc::Global;
+use std::fs::File;
 use std::io::{self, Eprint, ErrorKind};
 use std::process::{ExitStatus, Processes};
 use std::rt::{Clock, Files};
 
 /// Runs the user's program as the test. It tells no content, so that all process judges have one key.
 ///
-/// Judge K writes the variant to `creduce-trial-K/NAME` in the current folder, under the file's own name, and starts the
+/// Judge K empties the folder `creduce-trial-K` in the current one, puts the variant there under the file's own name, and starts the
 /// program in that folder, with the null device as its input, output and error. Exit status 0 is yes. The test has failed
-/// where the variant can't be written or the shell not be started, and at the exit statuses 126 and 127, by which a shell says
+/// where the variant can't be put there or the shell not be started, and at the exit statuses 126 and 127, by which a shell says
 /// that a program can't be started. Every other end is no, a signal included. The program is waited for, however long it takes.
 #[derive(Drop)]
 pub struct ProcessJudge<'a, R> {
     rt: &'a R,
     number: u32,
-    progress: Option<&'a Progress>,
+    room: Room<'a, R>,
+    mark: &'a str,
+    progress: Option<&'a Progress<'a>>,
     /// How often it was asked. It stays at its last value.
     pub asked: u64,
     /// How often its test has failed. It stays at its last value.
@@ -28,8 +32,8 @@ pub struct ProcessJudge<'a, R> {
 }
 
 impl<'a, R> ProcessJudge<'a, R> {
-    /// The judge of this number. It makes its folder when it is first asked.
-    pub fn new(rt: &'a R, number: u32) -> ProcessJudge<'a, R>
+    /// The judge of this number, of the run of this mark, whose variants get this mode. It makes its folder when it is first asked.
+    pub fn new(rt: &'a R, number: u32, mark: &'a str, mode: u32) -> ProcessJudge<'a, R>
         ensures number { result.number ≡ number }
         ensures asked { result.asked ≡ 0 }
         ensures faults { result.faults ≡ 0 }
@@ -37,6 +41,8 @@ impl<'a, R> ProcessJudge<'a, R> {
         ProcessJudge {
             rt,
             number,
+            room: Room::new(rt, mode),
+            mark,
             progress: None,
             asked: 0,
             faults: 0,
@@ -44,7 +50,7 @@ impl<'a, R> ProcessJudge<'a, R> {
     }
 
     /// The same judge, which notes its trials with others there: the smallest file that passed is kept, and progress is said.
-    pub fn noting(self, progress: &'a Progress) -> ProcessJudge<'a, R>
+    pub fn noting(self, progress: &'a Progress<'a>) -> ProcessJudge<'a, R>
         ensures number { result.number ≡ self.entry.number }
         ensures asked { result.asked ≡ self.entry.asked }
         ensures faults { result.faults ≡ self.entry.faults }
@@ -70,7 +76,8 @@ fn answer(outcome: io::Result<ExitStatus>) -> Answer
     }
 }
 
-impl<R: Clock + Eprint + Files + Processes> Judge for ProcessJudge<'_, R> {
+impl<R: Clock + Clone + Drop + Eprint + Files<File = File> + Processes> Judge
+    for ProcessJudge<'_, R> {
     type Key = ();
 
     ghost key = { λ _. tt };
@@ -85,13 +92,22 @@ impl<R: Clock + Eprint + Files + Processes> Judge for ProcessJudge<'_, R> {
 
     fn ask(&mut self, alloc: Global, test: &str, name: &str, file: &[u8]) -> Answer {
         self.asked = self.asked.saturating_add(1);
-        let trial = match Trial::new(alloc, self.number, name) {
+        let trial = match Trial::new(alloc, self.number) {
             Ok(trial) => trial,
             Err(_) => return Answer::NoMemory,
         };
-        let answer = answer(trial.run(self.rt, alloc, test, file));
         if let Some(progress) = self.progress {
-            progress.note(self.rt, alloc, name, file, answer == Answer::Yes);
+            progress.begin(self.rt, self.number);
+        }
+        let tried = Tried {
+            test,
+            name,
+            variant: file,
+            mark: self.mark,
+        };
+        let answer = answer(trial.run(self.rt, alloc, &mut self.room, &tried));
+        if let Some(progress) = self.progress {
+            progress.note(self.rt, alloc, self.number, file, answer == Answer::Yes);
         }
         if answer == Answer::Failed {
             self.faults = self.faults.saturating_add(1);

@@ -2,19 +2,21 @@
 ghost use Rattle.std.specs.Prelude.{◌≡◌, ◌≤◌, IsErr, IsErrOf, None, is_some, false, true};
 ghost use Rattle.cr_outside.specs.Faults.{Rose};
 
+use crate::part::sync_name;
 use crate::std_files::StdFiles;
+use cr_around::JournalWords;
 use cr_outside::{FileFault, Files, Outside, ReadAnswer};
 use cr_outside_disk::{Disk, DiskFault};
 use std::alloc::Global;
 use std::fs::{File, OpenOptions};
-use std::io::{self, ErrorKind, Write};
+use std::io::{self, ErrorKind};
 use std::os::unix::fs::FileExt;
 use std::rt::Files as SystemFiles;
 
 /// The files of the operating system, by their paths, and one of them as a journal. It tells nothing.
 ///
-/// While it has the journal open it holds the system's lock of that file, so that no second run writes to it; and a file that it
-/// writes is on the disk, with its name, before the write answers `Ok`. So what a journal speaks of is there once the journal is.
+/// While it has the journal open it holds the system's lock of that file, so that no second run writes to it. A file that it writes is on
+/// the disk before the write answers `Ok`, as `StdFiles` has it. So what a journal speaks of is there once the journal is.
 #[derive(Drop)]
 pub struct StdDisk<'a, R> {
     rt: &'a R,
@@ -26,18 +28,38 @@ pub struct StdDisk<'a, R> {
 }
 
 impl<'a, R> StdDisk<'a, R> {
-    /// No journal is open, and no call has failed yet.
-    pub fn new(rt: &'a R) -> StdDisk<'a, R>
+    /// No journal is open, and no call has failed yet. `reduced` is the file that is reduced.
+    pub fn new(rt: &'a R, reduced: Option<&'a str>) -> StdDisk<'a, R>
         ensures none { (result.faults ≡ 0) × (result.has_failed ≡ false) × (is_some result.journal ≡ false) }
     {
         StdDisk {
             rt,
-            files: StdFiles::new(rt),
+            files: StdFiles::new(rt, reduced),
             journal: None,
             size: 0,
             faults: 0,
             has_failed: false,
         }
+    }
+
+    /// The same, whose files note the checksum of the result beside the journal before it is put in the file's place.
+    pub fn noting(self, words: Option<JournalWords>) -> StdDisk<'a, R>
+        ensures none { (result.faults ≡ self.entry.faults) × (result.has_failed ≡ self.entry.has_failed) × (is_some result.journal ≡ is_some self.entry.journal) }
+    {
+        StdDisk {
+            files: self.files.noting(words),
+            ..self
+        }
+    }
+
+    /// Whether the file that is reduced was changed by somebody before its result came, so that it was not written.
+    pub fn was_changed(&self) -> bool {
+        self.files.was_changed
+    }
+
+    /// Under which name an older copy of the file that is reduced is kept, once it was renamed.
+    pub fn kept(&self) -> Option<&String> {
+        self.files.kept.as_ref()
     }
 
     // Closes the journal after a refused change: what stands in the file isn't known.
@@ -52,23 +74,6 @@ impl<'a, R> StdDisk<'a, R> {
     }
 }
 
-// The folder of a path.
-fn folder_of(name: &str) -> &str {
-    match name.rsplit_once('/') {
-        None => ".",
-        Some(("", _)) => "/",
-        Some((folder, _)) => folder,
-    }
-}
-
-// Puts a file's name on the disk.
-fn sync_folder<R: SystemFiles<File = File>>(rt: &R, name: &str) -> io::Result<()> {
-    OpenOptions::new()
-        .read(true)
-        .open(rt, folder_of(name))?
-        .sync_all()
-}
-
 // Opens a journal, or makes it, locks it, and puts its name on the disk. The length is that of the file.
 fn open<R: SystemFiles<File = File>>(rt: &R, name: &str) -> io::Result<(File, u64)> {
     let file = OpenOptions::new()
@@ -78,20 +83,8 @@ fn open<R: SystemFiles<File = File>>(rt: &R, name: &str) -> io::Result<(File, u6
         .open(rt, name)?;
     file.try_lock().map_err(io::Error::from)?;
     let len = file.metadata()?.len();
-    sync_folder(rt, name)?;
+    sync_name(rt, name)?;
     Ok((file, len))
-}
-
-// Writes a whole file in place, and puts it and its name on the disk.
-fn write_synced<R: SystemFiles<File = File>>(rt: &R, name: &str, bytes: &[u8]) -> io::Result<()> {
-    let mut file = OpenOptions::new()
-        .write(true)
-        .create(true)
-        .truncate(true)
-        .open(rt, name)?;
-    file.write_all(bytes)?;
-    file.sync_all()?;
-    sync_folder(rt, name)
 }
 
 // What an error is to the journal. A fault is counted.
@@ -119,11 +112,7 @@ impl<R: SystemFiles<File = File>> Files for StdDisk<'_, R> {
     }
 
     fn write(&mut self, alloc: Global, name: &str, bytes: &[u8]) -> Result<(), FileFault> {
-        if self.journal.is_none() {
-            return self.files.write(alloc, name, bytes);
-        }
-        let written = write_synced(self.rt, name, bytes);
-        self.files.answer_write(written)
+        self.files.write(alloc, name, bytes)
     }
 }
 

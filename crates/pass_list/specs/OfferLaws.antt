@@ -1,4 +1,4 @@
--- A file has one offer, a level has no more variants than the file has bytes, and there are ten passes of 16 levels: the proofs that the
+-- A file has one offer, a level has no more variants than the file has bytes, and there are twelve passes of 16 levels: the proofs that the
 -- impl of `Passes` gives of that trait's laws. They stand here since such a proof can name no file of its own crate's `proofs/`.
 use native.Mathlib.Omega.{arith}
 use mathlib.Core.Logic.{∥∥₁_elim}
@@ -39,13 +39,15 @@ use Rattle.pass_widths.specs.Few.{AreFew, AreOfUnit}
 use Rattle.pass_widths.proofs.Calls.{inlined_few}
 use Rattle.pass_widths.proofs.Expressions.{expressions_few}
 use Rattle.pass_widths.proofs.Names.{printed_few, renamed_few}
+use Rattle.pass_widths.proofs.Output.{output_few}
 use Rattle.pass_widths.proofs.Parameters.{parameters_few}
 use Rattle.pass_widths.proofs.Statements.{statements_few}
 use Rattle.pass_widths.proofs.Unused.{unused_few}
+use Rattle.pass_widths.proofs.Values.{values_few}
 use Rattle.pass_list.specs.declared.pass.Pass.{Pass}
-use Rattle.pass_list.specs.declared.pass.Pass.TheVariants.{Brackets, Expressions, Inlined, Lines, NotThere, Parameters, Printed, Renamed, Runs, Statements, Unused}
+use Rattle.pass_list.specs.declared.pass.Pass.TheVariants.{Brackets, Expressions, Inlined, Lines, NotThere, Output, Parameters, Printed, Renamed, Runs, Statements, Unused, Values}
 use Rattle.pass_list.specs.Passes.{levels_of, pass_by}
-use Rattle.pass_list.specs.Offers.{ByNames, ByStructures, ByTokens, ByTree, IfOn, IsKnown, IsOffered, Known, Offers, is_on, menu_at, nothing, offer_of}
+use Rattle.pass_list.specs.Offers.{ByNames, ByStructures, ByTokens, ByTree, IfOn, IsKnown, IsOffered, Known, Offers, is_on, levels_on, menu_at, nothing, offer_of}
 
 one_on : (on : Bool) (P : Offering → Type 0) (menu other : Offering) → (P menu → P other → menu ≡ other) → IfOn on P menu → IfOn on P other → menu ≡ other
 one_on true P menu other one is also = one is also
@@ -112,13 +114,15 @@ one_offered file read Inlined menu other is also = one_by_tokens read.tokens _ m
 one_offered file read Parameters menu other is also = one_by_tokens read.tokens _ menu other (λ ts. one_by_tree read.tree _ menu other (λ t. one_by_names read.names _ menu other (λ n a b. a ∙ sym b))) is also
 one_offered file read Renamed menu other is also = one_by_tokens read.tokens _ menu other (λ ts. one_by_tree read.tree _ menu other (λ t. one_by_names read.names _ menu other (λ n a b. a ∙ sym b))) is also
 one_offered file read Printed menu other is also = one_by_tokens read.tokens _ menu other (λ ts. one_by_tree read.tree _ menu other (λ t a b. one_printed file ts menu other a b)) is also
+one_offered file read Values menu other is also = one_by_tokens read.tokens _ menu other (λ ts. one_by_tree read.tree _ menu other (λ t. one_by_names read.names _ menu other (λ n a b. a ∙ sym b))) is also
+one_offered file read Output menu other is also = one_by_tokens read.tokens _ menu other (λ ts. one_by_tree read.tree _ menu other (λ t a b. a ∙ sym b)) is also
 one_offered file read NotThere menu other is also = is ∙ sym also
 
 known_by : (enabled : List Bool) (file : List ℕ) (known other : Known) (a : IsKnown enabled file known) (b : IsKnown enabled file other) → a.read ≡ b.read → known ≡ other
 known_by enabled file known other a b read =
     let lines = a.lines ∙ sym b.lines in
     let menus = ext_get_or nothing known.menus other.menus (a.count ∙ sym b.count) (λ i low.
-    let below : i < 10 = subst (λ n. i < n) a.count low in
+    let below : i < 12 = subst (λ n. i < n) a.count low in
     one_on (is_on enabled i) (IsOffered file a.read (pass_by i)) (menu_at known.menus i) (menu_at other.menus i)
     (one_offered file a.read (pass_by i) (menu_at known.menus i) (menu_at other.menus i)) (a.menus i below)
     (subst (λ r. IfOn (is_on enabled i) (IsOffered file r (pass_by i)) (menu_at other.menus i)) (sym read) (b.menus i below))) in
@@ -168,6 +172,11 @@ none_offered file read Renamed menu level is few = by_tokens read.tokens _ (λ m
     (λ n a. without menu _ 1 level a (one_renaming (first_free file ts) ts n _) few) refl) refl) refl is
 none_offered file read Printed menu level is few = by_tokens read.tokens _ (λ m. length (level_of m level) ≡ 0) menu
     (λ ts e. by_tree read.tree _ (λ m. length (level_of m level) ≡ 0) menu (λ t a. without menu _ 1 level a.is refl few) refl) refl is
+none_offered file read Values menu level is few = by_tokens read.tokens _ (λ m. length (level_of m level) ≡ 0) menu
+    (λ ts e. by_tree read.tree _ (λ m. length (level_of m level) ≡ 0) menu (λ t. by_names read.names _ (λ m. length (level_of m level) ≡ 0) menu
+    (λ n a. without menu _ 3 level a refl few) refl) refl) refl is
+none_offered file read Output menu level is few = by_tokens read.tokens _ (λ m. length (level_of m level) ≡ 0) menu
+    (λ ts e. by_tree read.tree _ (λ m. length (level_of m level) ≡ 0) menu (λ t a. without menu _ 3 level a refl few) refl) refl is
 none_offered file read NotThere menu level is few = without menu nothing 0 level is refl (omega arith)
 
 few_levels : (pass : Pass) → levels_of pass ≤ 15
@@ -181,6 +190,8 @@ few_levels Inlined = omega arith
 few_levels Parameters = omega arith
 few_levels Renamed = omega arith
 few_levels Printed = omega arith
+few_levels Values = omega arith
+few_levels Output = omega arith
 few_levels NotThere = omega arith
 
 -- A level has no more variants than the file has bytes.
@@ -238,6 +249,8 @@ of_tokens_few file tokens Inlined menu is offered = none_few (length file) menu 
 of_tokens_few file tokens Parameters menu is offered = none_few (length file) menu offered
 of_tokens_few file tokens Renamed menu is offered = none_few (length file) menu offered
 of_tokens_few file tokens Printed menu is offered = none_few (length file) menu offered
+of_tokens_few file tokens Values menu is offered = none_few (length file) menu offered
+of_tokens_few file tokens Output menu is offered = none_few (length file) menu offered
 of_tokens_few file tokens NotThere menu is offered = none_few (length file) menu offered
 
 no_tokens_few : (file : List ℕ) (pass : Pass) (menu : Offering) → IsOffered file (tokens_alone None) pass menu → AreFew (length file) menu
@@ -251,6 +264,8 @@ no_tokens_few file Inlined menu offered = none_few (length file) menu offered
 no_tokens_few file Parameters menu offered = none_few (length file) menu offered
 no_tokens_few file Renamed menu offered = none_few (length file) menu offered
 no_tokens_few file Printed menu offered = none_few (length file) menu offered
+no_tokens_few file Values menu offered = none_few (length file) menu offered
+no_tokens_few file Output menu offered = none_few (length file) menu offered
 no_tokens_few file NotThere menu offered = none_few (length file) menu offered
 
 of_unit_few : (file : List ℕ) (tokens : List Token) (tree : Tree) (names : Names) (structures : List (Option ℕ)) (pass : Pass) (menu : Offering) → Tokenizes file tokens
@@ -265,6 +280,8 @@ of_unit_few file tokens tree names structures Inlined menu is parsed known offer
 of_unit_few file tokens tree names structures Parameters menu is parsed known offered = fewer file tokens menu _ is offered (parameters_few file tokens names (of_parsed parsed))
 of_unit_few file tokens tree names structures Renamed menu is parsed known offered = fewer file tokens menu _ is offered (renamed_few file tokens tree.nodes tree.items names _ known.names)
 of_unit_few file tokens tree names structures Printed menu is parsed known offered = fewer file tokens menu menu is refl (printed_few file tokens tree.nodes tree.items menu (of_parsed parsed) offered)
+of_unit_few file tokens tree names structures Values menu is parsed known offered = fewer file tokens menu _ is offered (values_few tokens names (of_parsed parsed))
+of_unit_few file tokens tree names structures Output menu is parsed known offered = fewer file tokens menu _ is offered (output_few file tokens (of_parsed parsed))
 of_unit_few file tokens tree names structures NotThere menu is parsed known offered = none_few (length file) menu offered
 
 few_in : (file : List ℕ) (read : Read) (pass : Pass) (menu : Offering) → IsRead file read → IsOffered file read pass menu → AreFew (length file) menu
@@ -276,7 +293,7 @@ few_in file _ pass menu (of_unit {tokens = tokens} {unit = unit} {names = names}
 -- What holds of every menu that its pass offers, and of nothing, holds of what is known of a pass.
 known_menu : (enabled : List Bool) (file : List ℕ) (known : Known) (pass : ℕ) (Q : Offering → Type 0) → (is : IsKnown enabled file known)
     → (IsOffered file is.read (pass_by pass) (menu_at known.menus pass) → Q (menu_at known.menus pass)) → Q nothing → Q (menu_at known.menus pass)
-known_menu enabled file known pass Q is it none = elim (cases_lt pass 10) [
+known_menu enabled file known pass Q is it none = elim (cases_lt pass 12) [
   | inl low ↦ menu_on (is_on enabled pass) (IsOffered file is.read (pass_by pass)) Q (menu_at known.menus pass) it none (is.menus pass low)
   | inr high ↦ subst Q (sym (get_or_past known.menus pass nothing (let count = is.count in omega (arith, high, count)))) none
 ]
@@ -322,6 +339,27 @@ none_known enabled file known (suc pass) level is few = behind_lines pass (chunk
 -- No level stands at or above the number that its pass has.
 pub none_above : (enabled : List Bool) (file : List ℕ) (o : Offer) (pass level : ℕ) → Offers enabled file o → levels_at pass ≤ level → o.widths pass level ≡ 0
 none_above enabled file o pass level it few = subst (λ x. x.widths pass level ≡ 0) (sym it.is) (none_known enabled file it.known pass level it.is_known few)
+
+-- A pass that isn't enabled offers nothing, and so it has no level.
+off_menu : (enabled : List Bool) (file : List ℕ) (known : Known) (pass : ℕ) → IsKnown enabled file known → is_on enabled pass ≡ false → menu_at known.menus pass ≡ nothing
+off_menu enabled file known pass is off = elim (cases_lt pass 12) [
+  | inl low ↦ subst (λ (b : Bool). IfOn b (IsOffered file is.read (pass_by pass)) (menu_at known.menus pass)) off (is.menus pass low)
+  | inr high ↦ get_or_past known.menus pass nothing (let count = is.count in omega (arith, high, count))
+]
+
+no_lines_left : (lines level : ℕ) → lines ≡ 0 → chunks_of lines 0 level ≡ 0
+no_lines_left lines level none = let few = chunks_few lines 0 level in omega (arith, none, few)
+
+off_known : (enabled : List Bool) (file : List ℕ) (known : Known) (pass level : ℕ) → IsKnown enabled file known → is_on enabled pass ≡ false → (offer_of known file).widths pass level ≡ 0
+off_known enabled file known zero level is off = no_lines_left known.lines level (is.lines ∙ ap (λ (b : Bool). if b then length (lines_of file) else 0) off)
+off_known enabled file known (suc pass) level is off = behind_lines pass (chunks_of known.lines 0 level) (length (level_of (menu_at known.menus (suc pass)) level))
+    (ap (λ (m : Offering). length (level_of m level)) (off_menu enabled file known (suc pass) is off))
+
+pub none_on : (enabled : List Bool) (file : List ℕ) (o : Offer) (pass level : ℕ) → Offers enabled file o → levels_on enabled pass ≤ level → o.widths pass level ≡ 0
+none_on enabled file o pass level it few = elim (is_on enabled pass) as (λ b. is_on enabled pass ≡ b → (if b then levels_of (pass_by pass) else 0) ≤ level → o.widths pass level ≡ 0) [
+  | true ↦ λ is above. none_above enabled file o pass level it above
+  | false ↦ λ off above. subst (λ x. x.widths pass level ≡ 0) (sym it.is) (off_known enabled file it.known pass level it.is_known off)
+] refl few
 
 pub no_level : (enabled : List Bool) (file : List ℕ) (o : Offer) (pass level : ℕ) → Offers enabled file o → 15 < level → o.widths pass level ≡ 0
 no_level enabled file o pass level it above = none_above enabled file o pass level it (let few = few_levels (pass_by pass) in omega (arith, few, above))

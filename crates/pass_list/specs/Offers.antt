@@ -16,12 +16,14 @@ use Rattle.pass_exprs.specs.Expressions.{c_offering}
 use Rattle.pass_inline.specs.Inlined.{i_offering}
 use Rattle.pass_names.specs.Renamed.{r_offering}
 use Rattle.pass_names.specs.Unused.{u_offering}
+use Rattle.pass_output.specs.Output.{o_offering}
 use Rattle.pass_params.specs.Parameters.{p_offering}
 use Rattle.pass_stmts.specs.Printed.{IsPrintedOffering}
 use Rattle.pass_stmts.specs.Statements.{s_offering}
+use Rattle.pass_values.specs.Values.{v_offering}
 use Rattle.pass_list.specs.declared.pass.Pass.{Pass}
-use Rattle.pass_list.specs.declared.pass.Pass.TheVariants.{Brackets, Expressions, Inlined, Lines, NotThere, Parameters, Printed, Renamed, Runs, Statements, Unused}
-use Rattle.pass_list.specs.Passes.{pass_by}
+use Rattle.pass_list.specs.declared.pass.Pass.TheVariants.{Brackets, Expressions, Inlined, Lines, NotThere, Output, Parameters, Printed, Renamed, Runs, Statements, Unused, Values}
+use Rattle.pass_list.specs.Passes.{levels_of, pass_by}
 
 -- What is known of a file: how many lines it has, and what the passes behind the lines offer, each by its number.
 pub record Known : Type 0 where
@@ -34,6 +36,10 @@ nothing = record { levels = []; kept = nothing_kept }
 
 abbrev pub is_on : List Bool → ℕ → Bool
 is_on enabled pass = slice_index_or enabled pass false
+
+-- how many levels the pass of a number has, where it is enabled, else none: 42 in all without v and o
+abbrev pub levels_on : List Bool → ℕ → ℕ
+levels_on enabled pass = if is_on enabled pass then levels_of (pass_by pass) else 0
 
 -- the menu of a pass: what it offers where it is enabled, else nothing
 abbrev pub IfOn : Bool → (Offering → Type 0) → Offering → Type 0
@@ -78,6 +84,8 @@ IsOffered file read Parameters menu = ByTokens read.tokens (λ tokens. ByTree re
 IsOffered file read Renamed menu =
     ByTokens read.tokens (λ tokens. ByTree read.tree (λ tree. ByNames read.names (λ names m. m ≡ r_offering file tokens tree.nodes tree.items names))) menu
 IsOffered file read Printed menu = ByTokens read.tokens (λ tokens. ByTree read.tree (λ tree. IsPrintedOffering file tokens)) menu
+IsOffered file read Values menu = ByTokens read.tokens (λ tokens. ByTree read.tree (λ tree. ByNames read.names (λ names m. m ≡ v_offering tokens tree.nodes names))) menu
+IsOffered file read Output menu = ByTokens read.tokens (λ tokens. ByTree read.tree (λ tree m. m ≡ o_offering file tokens tree.nodes)) menu
 IsOffered file read NotThere menu = menu ≡ nothing
 
 -- the tokens of a unit that is read are the file's
@@ -96,14 +104,14 @@ offer_of known file = record {
 abbrev pub AreMenus : List Bool → List ℕ → Read → ℕ → List Offering → Type 0
 AreMenus enabled file read most menus = (pass : ℕ) → pass < most → IfOn (is_on enabled pass) (IsOffered file read (pass_by pass)) (menu_at menus pass)
 
--- What is known of a file: the lines, where they are enabled, and the menus of the ten passes by what is read of it. How it is read may
+-- What is known of a file: the lines, where they are enabled, and the menus of the twelve passes by what is read of it. How it is read may
 -- be known without a derivation, as what lies behind a lock is; there is one reading at most.
 pub record IsKnown (enabled : List Bool) (file : List ℕ) (known : Known) : Type 0 where
   pub read : Read
   pub is_read : ∥ IsRead file read ∥₁
   pub lines : known.lines ≡ (if is_on enabled 0 then length (lines_of file) else 0)
-  pub count : length known.menus ≡ 10
-  pub menus : AreMenus enabled file read 10 known.menus
+  pub count : length known.menus ≡ 12
+  pub menus : AreMenus enabled file read 12 known.menus
 
 -- What is offered for a file, of which the passes of this list are enabled.
 pub record Offers (enabled : List Bool) (file : List ℕ) (offer : Offer) : Type 0 where

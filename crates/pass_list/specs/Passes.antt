@@ -1,7 +1,7 @@
 -- The passes by their numbers.
 use Rattle.std.specs.Prelude.{ℕ, ◌==◌, if◌then◌else◌}
 use Rattle.pass_list.specs.declared.pass.Pass.{Pass}
-use Rattle.pass_list.specs.declared.pass.Pass.TheVariants.{Brackets, Expressions, Inlined, Lines, NotThere, Parameters, Printed, Renamed, Runs, Statements, Unused}
+use Rattle.pass_list.specs.declared.pass.Pass.TheVariants.{Brackets, Expressions, Inlined, Lines, NotThere, Output, Parameters, Printed, Renamed, Runs, Statements, Unused, Values}
 
 abbrev pub pass_by : ℕ → Pass
 pass_by number = if number == 0 then Lines
@@ -14,6 +14,8 @@ pass_by number = if number == 0 then Lines
     else if number == 7 then Parameters
     else if number == 8 then Renamed
     else if number == 9 then Printed
+    else if number == 10 then Values
+    else if number == 11 then Output
     else NotThere
 
 -- how many levels a pass has
@@ -28,4 +30,6 @@ levels_of Inlined = 2
 levels_of Parameters = 1
 levels_of Renamed = 1
 levels_of Printed = 1
+levels_of Values = 3
+levels_of Output = 3
 levels_of NotThere = 0

@@ -7,11 +7,13 @@ ghost use Rattle.pass_exprs.specs.Expressions.{c_offering};
 ghost use Rattle.pass_inline.specs.Inlined.{i_offering};
 ghost use Rattle.pass_names.specs.Renamed.{r_offering};
 ghost use Rattle.pass_names.specs.Unused.{u_offering};
+ghost use Rattle.pass_output.specs.Output.{o_offering};
 ghost use Rattle.pass_params.specs.Parameters.{p_offering};
 ghost use Rattle.pass_stmts.specs.Printed.{IsPrintedOffering};
 ghost use Rattle.pass_stmts.specs.Statements.{s_offering};
 ghost use Rattle.pass_text.specs.Brackets.{IsBracketOffering};
 ghost use Rattle.pass_text.specs.Runs.{t_offering};
+ghost use Rattle.pass_values.specs.Values.{v_offering};
 
 use crate::pass::{Pass, pass_by};
 use cr_cursor::NoMemory;
@@ -20,9 +22,11 @@ use pass_edit::{Kept, Menu};
 use pass_exprs::expressions;
 use pass_inline::inlined;
 use pass_names::{renamed, unused};
+use pass_output::output;
 use pass_params::parameters;
 use pass_stmts::{printed, statements};
 use pass_text::{brackets, count_lines, runs_of_tokens};
+use pass_values::values;
 use std::alloc::Global;
 use std::marker::Model;
 
@@ -89,11 +93,11 @@ fn menus(
     analysis: &Analysis,
 ) -> Result<Vec<Menu>, NoMemory>
     requires { HasFilesTokens file.now analysis.now }
-    ensures count { IfOk result (λ menus. length menus.items ≡ 10) }
-    ensures menus { IfOk result (λ menus. AreMenus enabled.now file.now (read_of analysis.now) 10 menus.items) }
+    ensures count { IfOk result (λ menus. length menus.items ≡ 12) }
+    ensures menus { IfOk result (λ menus. AreMenus enabled.now file.now (read_of analysis.now) 12 menus.items) }
 {
     let mut menus = Vec::new(alloc);
-    for pass in 0..10 {
+    for pass in 0..12 {
         menus.push(menu(alloc, is_on(enabled, pass), pass, file, analysis)?)?;
     }
     Ok(menus)
@@ -140,6 +144,8 @@ fn offered(alloc: Global, pass: Pass, file: &[u8], analysis: &Analysis) -> Resul
         Pass::Parameters => parameters_offered(alloc, file, analysis),
         Pass::Renamed => renamed_offered(alloc, file, analysis),
         Pass::Printed => printed_offered(alloc, file, analysis),
+        Pass::Values => values_offered(alloc, file, analysis),
+        Pass::Output => output_offered(alloc, file, analysis),
     }
 }
 
@@ -237,6 +243,24 @@ fn printed_offered(alloc: Global, file: &[u8], analysis: &Analysis) -> Result<Me
 {
     match analysis {
         Analysis::OfUnit(unit, _, _) => printed(alloc, file, unit),
+        _ => Ok(nothing(alloc)),
+    }
+}
+
+fn values_offered(alloc: Global, file: &[u8], analysis: &Analysis) -> Result<Menu, NoMemory>
+    ensures { IfOk result (IsOffered file.now (read_of analysis.now) Pass.Values) }
+{
+    match analysis {
+        Analysis::OfUnit(unit, names, _) => values(alloc, unit, names),
+        _ => Ok(nothing(alloc)),
+    }
+}
+
+fn output_offered(alloc: Global, file: &[u8], analysis: &Analysis) -> Result<Menu, NoMemory>
+    ensures { IfOk result (IsOffered file.now (read_of analysis.now) Pass.Output) }
+{
+    match analysis {
+        Analysis::OfUnit(unit, _, _) => output(alloc, file, unit),
         _ => Ok(nothing(alloc)),
     }
 }

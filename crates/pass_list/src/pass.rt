@@ -25,11 +25,15 @@ pub enum Pass {
     Renamed,
     /// f, the printed unit.
     Printed,
+    /// v, values that pass through a variable.
+    Values,
+    /// o, what `printf` prints.
+    Output,
     /// No pass.
     NotThere,
 }
 
-/// The pass of a number: the ten passes l t b u s c i p r f have the numbers from 0 on.
+/// The pass of a number: the twelve passes l t b u s c i p r f v o have the numbers from 0 on.
 pub fn pass_by(number: usize) -> Pass
     ensures { result ≡ pass_by number }
 {
@@ -44,6 +48,8 @@ pub fn pass_by(number: usize) -> Pass
         7 => Pass::Parameters,
         8 => Pass::Renamed,
         9 => Pass::Printed,
+        10 => Pass::Values,
+        11 => Pass::Output,
         _ => Pass::NotThere,
     }
 }

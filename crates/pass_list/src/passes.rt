@@ -12,10 +12,10 @@ use pass_edit::{variant, width};
 use pass_text::{lines_variant, lines_width};
 use std::alloc::Global;
 
-/// The ten passes l t b u s c i p r f by their numbers from 0 on, of which some are enabled.
+/// The twelve passes l t b u s c i p r f v o by their numbers from 0 on, of which some are enabled.
 #[derive(Clone, Copy)]
 pub struct CPasses<'a> {
-    pub enabled: [bool; 10],
+    pub enabled: [bool; 12],
     /// Where what was read of a file may lie already.
     pub last: Option<&'a LastRead>,
 }
@@ -23,7 +23,7 @@ pub struct CPasses<'a> {
 impl<'a> CPasses<'a> {
     /// Pass l alone.
     pub fn lines() -> CPasses<'a> {
-        let mut enabled = [false; 10];
+        let mut enabled = [false; 12];
         enabled[0] = true;
         CPasses {
             enabled,

@@ -7,9 +7,9 @@ use Rattle.cr_tokens.specs.declared.token.Token.{Token}
 use Rattle.cr_tokens.specs.Tokens.{Tokenizes}
 use Rattle.cr_tokens.proofs.Measures.{falls_length}
 use Rattle.pass_edit.specs.Menu.{Offering, level_of}
-use Rattle.pass_brackets.specs.declared.pair.Pair.{Pair}
-use Rattle.pass_brackets.specs.Nesting.{Nests}
-use Rattle.pass_brackets.proofs.Readings.{few, one}
+use Rattle.pass_text.specs.declared.pair.Pair.{Pair}
+use Rattle.pass_text.specs.Nesting.{Nests}
+use Rattle.pass_text.proofs.Readings.{few, one}
 use Rattle.pass_text.specs.Brackets.{IsBracketOffering, b_offering, pair_gone, pairs_gone, signs_of}
 use Rattle.pass_text.specs.Brackets.IsBracketOffering.{paired, unpaired}
 

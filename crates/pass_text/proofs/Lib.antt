@@ -1,4 +1,5 @@
 pub mod LineLaws
 pub mod LineLemmas
 pub mod LineEdits
+pub mod Readings
 pub mod BracketLemmas

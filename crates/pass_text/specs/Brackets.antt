@@ -5,8 +5,8 @@ use Rattle.pass_edit.specs.declared.change.Change.{Change}
 use Rattle.pass_edit.specs.Forms.{nothing_kept}
 use Rattle.pass_edit.specs.Menu.{Offering}
 use Rattle.pass_levels.specs.Places.{gone}
-use Rattle.pass_brackets.specs.declared.pair.Pair.{Pair}
-use Rattle.pass_brackets.specs.Nesting.{Nests, NestsNot}
+use Rattle.pass_text.specs.declared.pair.Pair.{Pair}
+use Rattle.pass_text.specs.Nesting.{Nests, NestsNot}
 
 -- the first byte of each token: that of a bracket is the bracket, and no other token begins with one (C11 6.4.6)
 abbrev pub signs_of : List ℕ → List Token → List ℕ

@@ -2,9 +2,10 @@
 ghost use Rattle.std.specs.Prelude.{◌≡◌, ◌++◌, ◌∷◌, [], map, slice_index, IfOk, OnOk};
 ghost use Rattle.pass_text.specs.Brackets.{IsBracketOffering, b_offering, pair_gone, pairs_gone, signs_of};
 
+use crate::matching::partners;
+use crate::pair::Pair;
 use cr_cursor::NoMemory;
 use cr_tokens::Token;
-use pass_brackets::{Pair, partners};
 use pass_edit::{Edits, Kept, Menu};
 use pass_levels::gone;
 use std::alloc::Global;

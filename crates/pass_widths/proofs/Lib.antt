@@ -10,4 +10,6 @@ pub mod Statements
 pub mod Unused
 pub mod Calls
 pub mod Names
+pub mod Output
 pub mod Parameters
+pub mod Values

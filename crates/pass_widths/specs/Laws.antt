@@ -10,9 +10,11 @@ use Rattle.pass_exprs.specs.Expressions.{c_offering}
 use Rattle.pass_inline.specs.Inlined.{i_offering}
 use Rattle.pass_names.specs.Renamed.{r_offering}
 use Rattle.pass_names.specs.Unused.{u_offering}
+use Rattle.pass_output.specs.Output.{o_offering}
 use Rattle.pass_params.specs.Parameters.{p_offering}
 use Rattle.pass_stmts.specs.Printed.{IsPrintedOffering}
 use Rattle.pass_stmts.specs.Statements.{s_offering}
+use Rattle.pass_values.specs.Values.{v_offering}
 use Rattle.pass_widths.specs.Few.{AreFew, AreOfUnit}
 
 abbrev pub StatementsAreFew : Type 0
@@ -44,6 +46,14 @@ RenamedAreFew = (file : List ℕ) (tokens : List Token) (nodes : List Node) (ite
 abbrev pub PrintedAreFew : Type 0
 PrintedAreFew = (file : List ℕ) (tokens : List Token) (nodes : List Node) (items : List ℕ) (menu : Offering)
     → AreOfUnit (length tokens) nodes items → IsPrintedOffering file tokens menu → AreFew (length tokens) menu
+
+abbrev pub ValuesAreFew : Type 0
+ValuesAreFew = (tokens : List Token) (nodes : List Node) (items : List ℕ) (names : Names)
+    → AreOfUnit (length tokens) nodes items → AreFew (length tokens) (v_offering tokens nodes names)
+
+abbrev pub OutputIsFew : Type 0
+OutputIsFew = (file : List ℕ) (tokens : List Token) (nodes : List Node) (items : List ℕ)
+    → AreOfUnit (length tokens) nodes items → AreFew (length tokens) (o_offering file tokens nodes)
 
 -- A unit has at most twice as many nodes as tokens: a node has a token of its own, or two parts.
 abbrev pub NodesAreFew : Type 0

@@ -1,5 +1,5 @@
 // Laws of the passes over a tree.
-ghost use Rattle.pass_widths.specs.Laws.{ExpressionsAreFew, InlinedAreFew, NodesAreFew, ParametersAreFew, PrintedAreFew, RenamedAreFew, StatementsAreFew, UnusedAreFew};
+ghost use Rattle.pass_widths.specs.Laws.{ExpressionsAreFew, InlinedAreFew, NodesAreFew, OutputIsFew, ParametersAreFew, PrintedAreFew, RenamedAreFew, StatementsAreFew, UnusedAreFew, ValuesAreFew};
 
 /// A law: no level of pass s has more edits than the file has tokens.
 pub fn statements_are_few()
@@ -34,6 +34,16 @@ pub fn renamed_are_few()
 /// A law: nor has one of pass f, where a unit is read.
 pub fn printed_are_few()
     ensures { PrintedAreFew }
+{}
+
+/// A law: nor has one of pass v.
+pub fn values_are_few()
+    ensures { ValuesAreFew }
+{}
+
+/// A law: nor has one of pass o.
+pub fn output_is_few()
+    ensures { OutputIsFew }
 {}
 
 /// A law: a unit has at most twice as many nodes as tokens.

@@ -8,6 +8,6 @@
 mod laws;
 
 pub use laws::{
-    expressions_are_few, inlined_are_few, nodes_are_few, parameters_are_few, printed_are_few,
-    renamed_are_few, statements_are_few, unused_are_few,
+    expressions_are_few, inlined_are_few, nodes_are_few, output_is_few, parameters_are_few,
+    printed_are_few, renamed_are_few, statements_are_few, unused_are_few, values_are_few,
 };

@@ -11,10 +11,10 @@ const NAME: &str = "f.c.journal";
 #[test]
 fn a_real_file_is_a_journal(rt: HostRuntime) -> Result<(), Fail> {
     let alloc = rt.alloc();
-    let mut disk = StdDisk::new(&rt);
+    let mut disk = StdDisk::new(&rt, Some("f.c"));
     make(&mut disk, alloc)?;
     // A second run finds it locked.
-    let mut second = StdDisk::new(&rt);
+    let mut second = StdDisk::new(&rt, Some("f.c"));
     assert!(rt;
         second.start(alloc, NAME) == Err(DiskFault::Failed),
         "the disk answered otherwise"

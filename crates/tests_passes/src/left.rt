@@ -10,7 +10,7 @@ fn what_was_read_before_is_taken_and_offers_the_same(rt: HostRuntime) -> Result<
     let file: &[u8] = b"int a;\nint main(){return 1+2;}\n";
     let last = LastRead::new();
     last.leave(file.to_vec(alloc)?, analyse(alloc, file)?);
-    let enabled = [true; 10];
+    let enabled = [true; 12];
     let plain = CPasses {
         enabled,
         last: None,

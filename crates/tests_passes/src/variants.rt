@@ -723,6 +723,90 @@ r 0 0 1¦int main(){int a=3;L:if(a){a--;goto L;}return a;}
 file¦int main(){int*p;{int x=1;p=&x;goto L;}L:return *p;}
 r 0 0 2¦int main(){int*a;{int x=1;a=&x;goto L;}L:return *a;}
 r 0 1 2¦int main(){int*p;{int a=1;p=&a;goto L;}L:return *p;}
+file¦int printf(const char*,...);int main(){printf("a %d %d\n",0,7);return 0;}
+o 0 0 2¦int printf(const char*,...);int main(){printf("a  %d\n",7);return 0;}
+o 0 1 2¦int printf(const char*,...);int main(){printf("a %d \n",0);return 0;}
+o 1 0 1¦int printf(const char*,...);int main(){printf("%d%d",0,7);return 0;}
+o 2 0 0¦int printf(const char*,...);int main(){printf("a %d %d\n",0,7);return 0;}
+o 3 0 0¦int printf(const char*,...);int main(){printf("a %d %d\n",0,7);return 0;}
+file¦int printf(const char*,...);int main(){long x=1;printf("%ld%u%%%c%s",(long)x,5uL,(x,65),"s");return 0;}
+o 0 0 4¦int printf(const char*,...);int main(){long x=1;printf("%u%%%c%s",5uL,(x,65),"s");return 0;}
+o 0 1 4¦int printf(const char*,...);int main(){long x=1;printf("%ld%%%c%s",(long)x,(x,65),"s");return 0;}
+o 0 2 4¦int printf(const char*,...);int main(){long x=1;printf("%ld%u%%%s",(long)x,5uL,"s");return 0;}
+o 0 3 4¦int printf(const char*,...);int main(){long x=1;printf("%ld%u%%%c",(long)x,5uL,(x,65));return 0;}
+o 1 0 1¦int printf(const char*,...);int main(){long x=1;printf("%ld%u%c%s",(long)x,5uL,(x,65),"s");return 0;}
+o 2 0 3¦int printf(const char*,...);int main(){long x=1;printf("%d%u%%%c%s",x,5uL,(x,65),"s");return 0;}
+o 2 1 3¦int printf(const char*,...);int main(){long x=1;printf("%ld%d%%%c%s",(long)x,5,(x,65),"s");return 0;}
+o 2 2 3¦int printf(const char*,...);int main(){long x=1;printf("%ld%u%%%d%s",(long)x,5uL,(x,65),"s");return 0;}
+file¦int printf(const char*,...);int putchar(int);int main(){printf("%d" "%d",1,2);printf("x%dy%dz",printf("%lu",3ul));putchar(65);printf("%d");return 0;}
+o 0 0 2¦int printf(const char*,...);int putchar(int);int main(){printf("%d" "%d",1,2);printf("x y%dz");putchar(65);printf("%d");return 0;}
+o 0 1 2¦int printf(const char*,...);int putchar(int);int main(){printf("%d" "%d",1,2);printf("x%dy%dz",printf(""));putchar(65);printf("%d");return 0;}
+o 1 0 1¦int printf(const char*,...);int putchar(int);int main(){printf("%d" "%d",1,2);printf("%d%d",printf("%lu",3ul));putchar(65);printf("%d");return 0;}
+o 2 0 1¦int printf(const char*,...);int putchar(int);int main(){printf("%d" "%d",1,2);printf("x%dy%dz",printf("%d",3));putchar(65);printf("%d");return 0;}
+file¦int printf(const char*,...);int main(){printf("%lld%5d%l%",1ll,2);printf("%uh",1);return 0;}
+o 0 0 2¦int printf(const char*,...);int main(){printf("%5d%l%",2);printf("%uh",1);return 0;}
+o 0 1 2¦int printf(const char*,...);int main(){printf("%lld%5d%l%",1ll,2);printf("h");return 0;}
+o 1 0 2¦int printf(const char*,...);int main(){printf("%lld",1ll,2);printf("%uh",1);return 0;}
+o 1 1 2¦int printf(const char*,...);int main(){printf("%lld%5d%l%",1ll,2);printf("%u",1);return 0;}
+o 2 0 2¦int printf(const char*,...);int main(){printf("%d%5d%l%",1,2);printf("%uh",1);return 0;}
+o 2 1 2¦int printf(const char*,...);int main(){printf("%lld%5d%l%",1ll,2);printf("%d h",1);return 0;}
+file¦int printf(const char*,...);int main(){printf("%%%d%%",1);printf("%%");printf("%%%%d",2);return 0;}
+o 0 0 1¦int printf(const char*,...);int main(){printf("%%%%");printf("%%");printf("%%%%d",2);return 0;}
+o 1 0 1¦int printf(const char*,...);int main(){printf("%d",1);printf("%%");printf("%%%%d",2);return 0;}
+o 2 0 0¦int printf(const char*,...);int main(){printf("%%%d%%",1);printf("%%");printf("%%%%d",2);return 0;}
+file¦int main(){return x;}
+v 0 0 0¦int main(){return x;}
+o 0 0 0¦int main(){return x;}
+file¦int main(){int a=2+3,b=1;return a*b;}
+v 0 0 2¦int main(){int b=1;return (2+3)*b;}
+v 0 1 2¦int main(){int a=2+3;return a*(1);}
+v 1 0 0¦int main(){int a=2+3,b=1;return a*b;}
+v 2 0 0¦int main(){int a=2+3,b=1;return a*b;}
+v 3 0 0¦int main(){int a=2+3,b=1;return a*b;}
+file¦int f(){int x=f();return x;}int y=4,z;int main(){int u=sizeof u,w=y;for(int i=3;w<i;);return z;}
+v 0 0 4¦int f(){return (f());}int y=4,z;int main(){int u=sizeof u,w=y;for(int i=3;w<i;);return z;}
+v 0 1 4¦int f(){int x=f();return x;}int z;int main(){int u=sizeof u,w=(4);for(int i=3;w<i;);return z;}
+v 0 2 4¦int f(){int x=f();return x;}int y=4,z;int main(){int u=sizeof u;for(int i=3;(y)<i;);return z;}
+v 0 3 4¦int f(){int x=f();return x;}int y=4,z;int main(){int u=sizeof u,w=y;for(w<(3););return z;}
+v 1 0 0¦int f(){int x=f();return x;}int y=4,z;int main(){int u=sizeof u,w=y;for(int i=3;w<i;);return z;}
+v 2 0 0¦int f(){int x=f();return x;}int y=4,z;int main(){int u=sizeof u,w=y;for(int i=3;w<i;);return z;}
+file¦int g(){return 1;}int main(){int a,b,c;a=g();b=a;c=1;c=2;return b;}
+v 0 0 0¦int g(){return 1;}int main(){int a,b,c;a=g();b=a;c=1;c=2;return b;}
+v 1 0 2¦int g(){return 1;}int main(){int b,c;;b=(g());c=1;c=2;return b;}
+v 1 1 2¦int g(){return 1;}int main(){int a,c;a=g();;c=1;c=2;return (a);}
+file¦int main(){int a,b,c;a=1;a+=2;b=3;c=(b=4);return c++;}
+v 1 0 2¦int main(){int b,c;;(1)+=2;b=3;c=(b=4);return c++;}
+v 1 1 2¦int main(){int a,b;a=1;a+=2;b=3;;return ((b=4))++;}
+file¦int x;int main(){if(x)x=5- -x/**/-1;return 0;}
+v 1 0 0¦int x;int main(){if(x)x=5- -x/**/-1;return 0;}
+file¦int x,y;int main(){if(x)x=5- -y/**/-1;return 0;}
+v 1 0 1¦int y;int main(){if((5- -y-1));return 0;}
+file¦int x;int main(){if(x)x=5;return 0;}
+v 1 0 1¦int main(){if((5));return 0;}
+file¦int main(){int a;a=a+1;return 0;}
+v 1 0 1¦int main(){;return 0;}
+file¦int f(int p){p=1;return p;}int main(){return f(0);}
+v 1 0 0¦int f(int p){p=1;return p;}int main(){return f(0);}
+file¦int x=2;int main(){x=5;return x;}
+v 0 0 0¦int x=2;int main(){x=5;return x;}
+v 1 0 0¦int x=2;int main(){x=5;return x;}
+file¦int f(){return 1;}int main(){int a=f();static int b={2};int c=1,d=2;{const int e=f()+1;}return c+d;}
+v 0 0 2¦int f(){return 1;}int main(){int a=f();static int b={2};int d=2;{const int e=f()+1;}return (1)+d;}
+v 0 1 2¦int f(){return 1;}int main(){int a=f();static int b={2};int c=1;{const int e=f()+1;}return c+(2);}
+v 1 0 0¦int f(){return 1;}int main(){int a=f();static int b={2};int c=1,d=2;{const int e=f()+1;}return c+d;}
+v 2 0 2¦int f(){return 1;}int main(){f();static int b={2};int c=1,d=2;{const int e=f()+1;}return c+d;}
+v 2 1 2¦int f(){return 1;}int main(){int a=f();static int b={2};int c=1,d=2;{f()+1;}return c+d;}
+file¦int printf(const char*,...);unsigned short b;struct{char a;}g={-1};int main(){printf("11 %ld %lu\n",(long)0,(unsigned long)(0?b:g.a));return 0;}
+v 0 0 0¦int printf(const char*,...);unsigned short b;struct{char a;}g={-1};int main(){printf("11 %ld %lu\n",(long)0,(unsigned long)(0?b:g.a));return 0;}
+o 0 0 2¦int printf(const char*,...);unsigned short b;struct{char a;}g={-1};int main(){printf("11  %lu\n",(unsigned long)(0?b:g.a));return 0;}
+o 0 1 2¦int printf(const char*,...);unsigned short b;struct{char a;}g={-1};int main(){printf("11 %ld \n",(long)0);return 0;}
+o 1 0 1¦int printf(const char*,...);unsigned short b;struct{char a;}g={-1};int main(){printf("%ld%lu",(long)0,(unsigned long)(0?b:g.a));return 0;}
+o 2 0 2¦int printf(const char*,...);unsigned short b;struct{char a;}g={-1};int main(){printf("11 %d %lu\n",0,(unsigned long)(0?b:g.a));return 0;}
+o 2 1 2¦int printf(const char*,...);unsigned short b;struct{char a;}g={-1};int main(){printf("11 %ld %d\n",(long)0,(0?b:g.a));return 0;}
+file¦int printf(const char*,...);static int a;int main(){int b=printf("AT1 ");if(a)printf("DEAD1 ");a=0;}
+v 0 0 0¦int printf(const char*,...);static int a;int main(){int b=printf("AT1 ");if(a)printf("DEAD1 ");a=0;}
+v 1 0 1¦int printf(const char*,...);int main(){int b=printf("AT1 ");if((0))printf("DEAD1 ");;}
+v 2 0 1¦int printf(const char*,...);static int a;int main(){printf("AT1 ");if(a)printf("DEAD1 ");a=0;}
 "#;
 
 fn number(word: Option<&str>) -> u64 {
@@ -744,7 +828,9 @@ fn pass_of(letter: Option<&str>) -> u8 {
         "p" => 7,
         "r" => 8,
         "f" => 9,
-        _ => 10,
+        "v" => 10,
+        "o" => 11,
+        _ => 12,
     }
 }
 
@@ -829,7 +915,7 @@ fn check_rows(rt: &impl Abort, alloc: Global, file: &[u8], rows: &str) -> Result
     requires { length file.now ≤ 1048576 }
 {
     let passes = CPasses {
-        enabled: [true; 10],
+        enabled: [true; 12],
         last: None,
     };
     let index = passes.prepare(alloc, file)?;

@@ -56,6 +56,38 @@ copy none
 log none
 ";
 
+/// A file of five lines of which one keeps both operands of the labelled statement evaluated: without it the second one isn't.
+const REACHED: &str = "\
+what a line that the label doesn't allow to go
+passes l
+workers 2
+window 8
+words --reached=A has:x&&x abc.c
+name abc.c
+before int x;␊int main(){␊x=1;␊A:x&&x;␊}␊
+status 0
+output abc.c size 205 to 205 accepted 0 turns 22 fixed␊
+after same
+copy same
+log end fixed 205 22␊
+
+what the same in any order, where the run is to come to the same
+words if:same --any-order --reached=A abc.c
+
+what a line that may go, since no label is asked for
+words has:x&&x abc.c
+output abc.c size 205 to 164 accepted 1 turns 41 fixed␊
+after int x;␊int main(){␊A:x&&x;␊}␊
+log l 14 2 164 20␊end fixed 164 41␊
+
+what no label of the name
+words --reached=B has:x&&x abc.c
+status 5
+output creduce: abc.c:1: left the profile: N9␊
+copy none
+log none
+";
+
 /// The same file with a journal: what there is before a run, and what it comes to.
 const KEPT: &str = "\
 what a journal of a run in any order
@@ -167,6 +199,18 @@ fn a_variant_whose_run_hangs_on_an_order_is_no_result_in_any_order(
     for flags in ["", "--standing"] {
         for own in ORDERED.split("\n\n") {
             expect_by(&rt, rt.alloc(), with(flags), &Case::of(ORDERED, own))?;
+        }
+    }
+    Ok(())
+}
+
+#[test]
+fn a_variant_whose_run_leaves_out_an_operand_at_the_label_is_no_result(
+    rt: HostRuntime,
+) -> Result<(), AllocError> {
+    for flags in ["", "--standing"] {
+        for own in REACHED.split("\n\n") {
+            expect_by(&rt, rt.alloc(), with(flags), &Case::of(REACHED, own))?;
         }
     }
     Ok(())

@@ -77,11 +77,14 @@ words --any-order --replay abc.c.log abc.c
 what a replay by standing workers
 words --replay abc.c.log abc.c --standing
 
+what a label without a name
+words --reached= has:b abc.c
+
 what a replay with a journal
 words --replay --journal abc.c.log abc.c
 ";
 
-/// Files whose run may hang on no order. Nothing is written.
+/// Files whose run may hang on no order, or is to reach a label. Nothing is written.
 const ORDERED: &str = "\
 what a read beside a call that writes it
 words --any-order --passes l has:main abc.c
@@ -98,6 +101,16 @@ before int x;int f(void){x=1;return 2;}int g(void){return 3;}␊int main(){retur
 
 what an exit in an operand
 before void exit(int);␊int h(void){exit(0);}int main(){return h()+1/0;}␊
+
+what a label that the run doesn't come by
+words --reached=A --passes l has:main abc.c
+before int f(void){␊A:return 1;}int main(){return 0;}␊
+output creduce: abc.c:2: left the profile: N9␊
+
+what no label of the name
+words --any-order --reached=B --passes l has:main abc.c
+before int x;␊int main(){␊A:return 0;}␊
+output creduce: abc.c:1: left the profile: N9␊
 
 what an undefined operation behind such a node
 before int f(void){return 1;}␊int main(){f()+f();␊return 1/0;}␊

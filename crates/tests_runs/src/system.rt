@@ -21,8 +21,8 @@ const AFTER: [(&str, &str); 3] = [
 
 fn bench(rt: &HostRuntime) -> Result<Bench<ProcessJudge<'_, HostRuntime>>, AllocError> {
     let mut judges = Vec::new(rt.alloc());
-    judges.push(ProcessJudge::new(rt, 0))?;
-    judges.push(ProcessJudge::new(rt, 1))?;
+    judges.push(ProcessJudge::new(rt, 0, "of-a-test", 0o644))?;
+    judges.push(ProcessJudge::new(rt, 1, "of-a-test", 0o644))?;
     Bench::new(rt.alloc(), judges)
 }
 
@@ -31,8 +31,8 @@ fn status(rt: &HostRuntime, threads: &(impl Threads + Sync)) -> Result<u8, Alloc
     let alloc = rt.alloc();
     let words = words_of(alloc, 2, 256, "has:main(){ creduce-test-run.c")?;
     let mut bench = bench(rt)?;
-    let mut files = StdFiles::new(rt);
-    let mut out = StdOut::new(rt);
+    let mut files = StdFiles::new(rt, Some("creduce-test-run.c"));
+    let mut out = StdOut::new(rt, alloc);
     Ok(status_of(threads, alloc, &words, &mut files, &mut bench, &mut out))
 }
 

@@ -1,5 +1,5 @@
 use crate::rows::{expect_true, number, pair, rows};
-use pass_brackets::{Pair, partners};
+use pass_text::{Pair, partners};
 use std::alloc::{AllocError, Global};
 
 // Signs, a point for a token that is no bracket; and the pairs, or `none`.

@@ -1,12 +1,12 @@
 // Words with flags, words of a replay, and words that have the place of either and are neither. What is wanted was found by hand from
 // their rules.
-use crate::words::{list_of, tell_passes, tell_settings};
+use crate::words::{expect_fault, list_of, tell_passes, tell_settings};
 use cr_main_words::{Engine, Modes, ReplaySettings, Request, WordFault, request_of};
 use std::alloc::{AllocError, Global};
 use std::process::Abort;
 
 /// What lists of words ask for where there are 32 workers, and behind it the words, each behind a bar: the engine, whether any order
-/// counts, and the settings, or `no`.
+/// counts, the label that is to be reached, and the settings, or `no`.
 const FLAGS: &str = "\
 journal 4 256 none 1000000 ltbusciprf has f.c|--journal|has:b|f.c
 journal 4 256 none 1000000 ltbusciprf has f.c|has:b|--journal|f.c
@@ -18,6 +18,24 @@ standing 4 256 none 1000000 ltbusciprf has f.c|--standing|has:b|f.c
 standing 4 256 none 1000000 ltbusciprf has f.c|has:b|--standing|f.c
 standing 4 256 none 1000000 ltbusciprf has f.c|has:b|f.c|--standing
 plain any 4 256 none 1000000 ltbusciprf has f.c|--any-order|has:b|f.c
+plain to A 4 256 none 1000000 ltbusciprf has f.c|--reached=A|has:b|f.c
+plain to A 4 256 none 1000000 ltbusciprf has f.c|has:b|f.c|--reached=A
+plain any to _a9 4 256 none 1000000 ltbusciprf has f.c|--any-order|has:b|--reached=_a9|f.c
+journal to Zz 4 256 none 1000000 ltbusciprf has f.c|--journal|has:b|--reached=Zz|f.c
+plain to A 4 256 5 1000000 ltbusciprf has f.c|--limit|--reached=A|5|has:b|f.c
+standing to A 4 256 none 1000000 ltbusciprf has gen 7 40|--reached=A|--standing|has:b|gen:7:40
+plain 4 256 none 1000000 ltbusciprf --reached=A f.c|--|--reached=A|f.c
+no|--reached=A|--reached=A|has:b|f.c
+no|--reached=A|has:b|--reached=B|f.c
+no|--reached=|has:b|f.c
+no|--reached|has:b|f.c
+no|--reached|A|has:b|f.c
+no|--reached=9a|has:b|f.c
+no|--reached=a-b|has:b|f.c
+no|--reached=a |has:b|f.c
+no|--Reached=A|has:b|f.c
+no|--replay|a.log|--reached=A|f.c
+no|--reached=A|--replay|a.log|f.c
 plain any 4 256 none 1000000 ltbusciprf has f.c|has:b|--any-order|f.c
 plain any 4 256 none 1000000 ltbusciprf has f.c|has:b|f.c|--any-order
 plain 4 256 none 1000000 ltbusciprf has f.c|has:b|f.c
@@ -102,6 +120,7 @@ replay 1 ltbusciprf a.log f.c|--replay|--steps|0000000000000000001|a.log|f.c
 replay 100000000 ltbusciprf a.log f.c|--replay|--steps|100000000|a.log|f.c
 replay 1000000 lt a.log f.c|--replay|--passes|tl|a.log|f.c
 replay 1000000 f a.log f.c|--replay|a.log|f.c|--passes=f
+replay 1000000 fv a.log f.c|--replay|a.log|f.c|--passes=vf
 replay 9 sc a.log f.c|--replay|--passes=cs|a.log|--steps|9|f.c
 replay 1000000 ltbusciprf a.log f.c|--replay|--|a.log|f.c
 replay 1000000 ltbusciprf a.log --steps|--replay|a.log|--|--steps
@@ -155,11 +174,18 @@ fn engine_word(engine: Engine) -> &'static str {
     }
 }
 
-fn tell_modes(told: &mut String, modes: Modes) -> Result<(), AllocError> {
+fn tell_modes(told: &mut String, modes: &Modes) -> Result<(), AllocError> {
     told.push_str(engine_word(modes.engine))?;
     told.push(' ')?;
     if modes.any_order {
         told.push_str("any ")?;
+    }
+    if let Some(name) = &modes.reached {
+        told.push_str("to ")?;
+        for byte in name.as_slice() {
+            told.push(char::from(*byte))?;
+        }
+        told.push(' ')?;
     }
     Ok(())
 }
@@ -174,7 +200,7 @@ fn told(alloc: Global, request: &Request) -> Result<String, AllocError> {
     let mut told = String::new(alloc);
     match request {
         Request::Reduction(settings, modes) => {
-            tell_modes(&mut told, *modes)?;
+            tell_modes(&mut told, modes)?;
             tell_settings(&mut told, settings)?;
         }
         Request::Replay(found) => tell_replay(&mut told, found)?,
@@ -196,6 +222,7 @@ fn expect_all(rt: &impl Abort, alloc: Global, rows: &str) -> Result<(), AllocErr
         let found = answer(alloc, line)?;
         let wanted = line.split('|').next().unwrap_or("");
         assert!(rt; found.as_str() == wanted, "{line}: {found}");
+        expect_fault(rt, alloc, line, wanted == "no")?;
     }
     Ok(())
 }

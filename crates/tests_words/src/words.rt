@@ -1,4 +1,5 @@
 // The command line. What is wanted was found by hand from its rules.
+use cr_explain::word_fault;
 use cr_main_words::{Settings, Source, WordFault, words};
 use cr_outside::Test;
 use std::alloc::{AllocError, Global};
@@ -25,6 +26,8 @@ const LISTS: &str = "\
 4 256 none 1000000 l has f.c|--passes|l|has:b|f.c
 4 256 none 1000000 tsf has f.c|--passes=fst|has:b|f.c
 4 256 none 1000000 ltbusciprf has f.c|--passes|frpicsubtl|has:b|f.c
+4 256 none 1000000 ltbusciprfvo has f.c|--passes|ovfrpicsubtl|has:b|f.c
+4 256 none 1000000 vo has f.c|--passes=ov|has:b|f.c
 2 16 7 99 bc t.sh f.c|--steps|99|t.sh|--workers=2|--passes|cb|f.c|--limit|7|--window=16
 4 256 none 1000000 ltbusciprf has f.c|has:b|--|f.c
 4 256 none 1000000 ltbusciprf has -x.c|--|has:b|-x.c
@@ -74,6 +77,7 @@ no|--window|4097|has:b|f.c
 no|--steps|0|has:b|f.c
 no|--steps|100000001|has:b|f.c
 no|--passes|ll|has:b|f.c
+no|--passes|vov|has:b|f.c
 no|--passes=|has:b|f.c
 no|--passes|lx|has:b|f.c
 no|--help|has:b|f.c
@@ -99,8 +103,8 @@ fn tell_numbers(told: &mut String, found: &Settings) -> Result<(), AllocError> {
 }
 
 /// Tells the letters of the passes that are on.
-pub(crate) fn tell_passes(told: &mut String, enabled: &[bool; 10]) -> Result<(), AllocError> {
-    for (letter, on) in "ltbusciprf".chars().zip(enabled.iter()) {
+pub(crate) fn tell_passes(told: &mut String, enabled: &[bool; 12]) -> Result<(), AllocError> {
+    for (letter, on) in "ltbusciprfvo".chars().zip(enabled.iter()) {
         if *on {
             told.push(letter)?;
         }
@@ -145,11 +149,25 @@ fn answer(alloc: Global, line: &str) -> Result<String, AllocError> {
     }
 }
 
+/// Whether a word that is in no form is found exactly where the words are refused, but for TEST's own text.
+pub(crate) fn expect_fault(
+    rt: &impl Abort,
+    alloc: Global,
+    line: &str,
+    is_refused: bool,
+) -> Result<(), AllocError> {
+    let list = list_of(alloc, line)?;
+    let found = word_fault(alloc, list.as_slice())?;
+    let is_wanted = is_refused && !line.contains("|has:|");
+    assert!(rt; found.is_some() == is_wanted, "{line}");
+    Ok(())
+}
+
 fn expect_answer(rt: &impl Abort, alloc: Global, line: &str) -> Result<(), AllocError> {
     let found = answer(alloc, line)?;
     let wanted = line.split('|').next().unwrap_or("");
     assert!(rt; found.as_str() == wanted, "{line}: {found}");
-    Ok(())
+    expect_fault(rt, alloc, line, wanted == "no")
 }
 
 #[test]

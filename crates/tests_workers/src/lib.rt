@@ -1,7 +1,7 @@
-//! The tests of `cr_core`, `cr_claims` and `cr_pool`, by public names alone.
+//! The tests of `cr_core`, `cr_claims`, `cr_pool` and `cr_standing`, by public names alone.
 //!
-//! They stand above these crates, so that neither proves its functions once more for its tests. It promises nothing, and
-//! stands on the crates that it tests. `meeting_bench` is for the tests of standing workers too.
+//! They stand above these crates, so that none of them proves its functions once more for its tests. It promises nothing, and
+//! stands on the crates that it tests.
 #![tactic(auto)]
 
 #[cfg(test)]
@@ -12,10 +12,15 @@ mod crowd;
 mod epochs;
 #[cfg(test)]
 mod events;
+#[cfg(test)]
+mod judges;
+#[cfg(test)]
 mod meeting;
+#[cfg(test)]
+mod random;
+#[cfg(test)]
+mod reductions;
 #[cfg(test)]
 mod remembered;
 #[cfg(test)]
 mod stepping;
-
-pub use meeting::{Meeting, meeting_bench, reaches};

@@ -27,9 +27,9 @@ returns-clause-runs g c =
     let before = judging g.J.Judge c.args.bench.now in
     let after = judging g.J.Judge c.run_in_modes.new.bench in
     reduces (by_form form) it.0 (c.requires.formula, c.requires.spelled) it.1 (λ quiet. ap (λ (js : List g.row.J.Denot). judging_of g.J.Judge js) (c.run_in_modes.ensures.silent refl))
-    (subst (λ f. RunsIn c.args.modes.engine (asked_by (law_by c.args.modes.any_order (limits_of settings.steps)) false (λ bytes told name file answer. TellsFormula (form_of f) bytes (limits_of settings.steps) file answer) settings says it.0)
+    (subst (λ f. RunsIn c.args.modes.now.engine (asked_by (law_by c.args.modes.now (limits_of settings.steps)) false (λ bytes told name file answer. TellsFormula (form_of f) bytes (limits_of settings.steps) file answer) settings says it.0)
     (marks_of settings) settings.source old new before after (g.W.Disk.has_failed c.run_in_modes.new.world) c.run_in_modes.result) c.asking_by-asking.ensures.formula
-    (subst (λ limits. RunsIn c.args.modes.engine (asked_by (law_by c.args.modes.any_order (limits_of settings.steps)) false (λ bytes told name file answer. TellsFormula (form_of c.asking_by-asking.result.formula.now) bytes limits file answer) settings says it.0)
+    (subst (λ limits. RunsIn c.args.modes.now.engine (asked_by (law_by c.args.modes.now (limits_of settings.steps)) false (λ bytes told name file answer. TellsFormula (form_of c.asking_by-asking.result.formula.now) bytes limits file answer) settings says it.0)
     (marks_of settings) settings.source old new before after (g.W.Disk.has_failed c.run_in_modes.new.world) c.run_in_modes.result)
     (c.asking_by-asking.ensures.limits ∙ c.leaving_runs-law.ensures ∙ c.with_steps.ensures.limits) it.2))
 

@@ -4,7 +4,7 @@ use Rattle.pass_list.specs.Offers.{Offers}
 use Rattle.cr_main_kept.specs.Kept.{RunsJournal, RunsResume}
 use Rattle.cr_main_kept.specs.KeptTask.{at, kept_with}
 use Rattle.cr_main_kept.specs.Surviving.{Survives}
-use Rattle.cr_main_standing.specs.Standing.{by_standing}
+use Rattle.cr_main.specs.Standing.{by_standing}
 use Rattle.cr_main_task.specs.Opening.{Ruled, RunsBound}
 use Rattle.cr_main_task.specs.Outside.{outside}
 use Rattle.cr_main_task.specs.Run.{by_epochs}

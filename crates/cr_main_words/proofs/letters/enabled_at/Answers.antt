@@ -1,9 +1,9 @@
-use Rattle.std.proofs.Common.{map, true, subst, sym, Some, None}
+use Rattle.std.proofs.Common.{map, subst, sym, Some, None}
 use Rattle.std.specs.Result.{IfOk}
 use Rattle.clap.specs.Walk.{texts}
 use Rattle.clap.specs.Words.{found_of}
-use Rattle.cr_main_words.specs.Letters.{IsEnabled, pass_letters}
-use Rattle.cr_main_words.specs.Letters.IsEnabled.{all_passes}
+use Rattle.cr_main_words.specs.Letters.{IsEnabled, has_letter, pass_letters, plain_letters}
+use Rattle.cr_main_words.specs.Letters.IsEnabled.{plain_passes}
 use Rattle.cr_main_words.proofs.Uses.{values_are}
 use Rattle.cr_main_words.proofs.letters.enabled_at.Goals as goal
 
@@ -20,4 +20,4 @@ returns-in-Some-clause-usage c = λ is enabled any.
 
 pub returns-in-None-clause-enabled : goal.returns-in-None-clause-enabled
 returns-in-None-clause-enabled c =
-    subst (λ v. IsEnabled v (map (λ letter. true) pass_letters)) (sym (values_are (found_of c.args.matches.now) c.args.name.now None c.in-None.ensures)) all_passes
+    subst (λ v. IsEnabled v (map (has_letter plain_letters) pass_letters)) (sym (values_are (found_of c.args.matches.now) c.args.name.now None c.in-None.ensures)) plain_passes

@@ -1,31 +1,16 @@
-use Rattle.std.proofs.Common.{ap, sym, ◌∙◌}
-use Rattle.cr_main_words.specs.Flags.{is_journal, is_resume, is_standing, once_if}
-use Rattle.cr_main_words.proofs.Asking.{one_answer}
+use Rattle.std.proofs.Common.{Err, ap}
+use Rattle.cr_main_words.proofs.Uses.{same_fault}
 use Rattle.cr_main_words.proofs.modes.modes_of.Goals as goal
 
-pub returns-in_err-journal : goal.returns-in_err-journal
-returns-in_err-journal c = rw c.from_residual.ensures (λ modes given. c.in_err-journal.ensures (is_journal modes.engine) given.journal)
+pub returns-in_default-clause-usage : goal.returns-in_default-clause-usage
+returns-in_default-clause-usage c = λ is modes given.
+    c.in_default.ensures modes.engine modes.any_order (record { journal = given.journal; resume = given.resume; standing = given.standing; any_order_is = given.any_order })
 
-pub returns-in_err-resume : goal.returns-in_err-resume
-returns-in_err-resume c = rw c.from_residual-in_err-resume.ensures (λ modes given. c.in_err-resume.ensures (is_resume modes.engine) given.resume)
+pub returns-in_err-reached-clause-usage : goal.returns-in_err-reached-clause-usage
+returns-in_err-reached-clause-usage c = λ is modes given.
+    c.in_err-reached.ensures.usage (ap Err (same_fault c.from_residual.result c.in_err-reached.field-0.0 c.from_residual.ensures.1 is)) modes.reached given.reached
 
-pub returns-in_err-standing : goal.returns-in_err-standing
-returns-in_err-standing c = rw c.from_residual-in_err-standing.ensures (λ modes given. c.in_err-standing.ensures (is_standing modes.engine) given.standing)
-
-pub returns-in_err-any_order : goal.returns-in_err-any_order
-returns-in_err-any_order c = rw c.from_residual-in_err-any_order.ensures (λ modes given. c.in_err-any_order.ensures modes.any_order given.any_order)
-
-pub returns-in_err-engine : goal.returns-in_err-engine
-returns-in_err-engine c = rw c.from_residual-in_err-engine.ensures (λ modes given.
-    c.in_err-engine.ensures modes.engine
-    (one_answer c.in_ok-journal.journal (is_journal modes.engine) (sym c.in_ok-journal.ensures ∙ given.journal))
-    (one_answer c.in_ok-resume.resume (is_resume modes.engine) (sym c.in_ok-resume.ensures ∙ given.resume))
-    (one_answer c.in_ok-standing.standing (is_standing modes.engine) (sym c.in_ok-standing.ensures ∙ given.standing)))
-
-pub returns : goal.returns
-returns c = record {
-  journal = c.in_ok-journal.ensures ∙ ap once_if c.in_ok-engine.ensures.0;
-  resume = c.in_ok-resume.ensures ∙ ap once_if c.in_ok-engine.ensures.1;
-  standing = c.in_ok-standing.ensures ∙ ap once_if c.in_ok-engine.ensures.2;
-  any_order = c.in_ok-any_order.ensures;
-}
+pub returns-clause-modes : goal.returns-clause-modes
+returns-clause-modes c =
+    let flags = c.in-Some.ensures in
+    record { journal = flags.journal; resume = flags.resume; standing = flags.standing; any_order = flags.any_order_is; reached = c.in_ok-reached.ensures.label }

@@ -1,0 +1,3 @@
+pub mod Alone
+pub mod Deeds
+pub mod Rows

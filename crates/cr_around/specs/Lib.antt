@@ -1,0 +1,4 @@
+pub mod Holding
+pub mod MemPlace
+pub mod Refusals
+pub mod Replacing

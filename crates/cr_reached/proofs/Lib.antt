@@ -1,0 +1,4 @@
+pub mod Evaluating
+pub mod Wholes
+pub mod Labelled
+pub mod Reaching

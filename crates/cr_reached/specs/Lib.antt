@@ -1,0 +1,4 @@
+pub mod Evaluated
+pub mod Own
+pub mod Reached
+pub mod Laws

@@ -1,6 +1,0 @@
-use Rattle.std.proofs.Common.{◌≡◌, drop, Some}
-use Rattle.pass_brackets.specs.Reading.{empty, reads}
-use Rattle.pass_brackets.proofs.matching.partners.Given as goal
-
-abbrev pub invariant-loop-at : goal.invariant-loop-at
-invariant-loop-at l = reads l.at (drop l.at l.signs) (Some empty) ≡ Some l.reading

@@ -1,3 +1,0 @@
-pub mod Nesting
-pub mod Laws
-pub mod Reading
