@@ -1,8 +1,7 @@
 // What is said on standard error when a run has ended.
 use crate::one_run::{Ended, is_quiet};
 use cr_around::documents_of;
-use cr_explain::{Seen, TestSeen, explanation, places_of, read_refusal};
-use cr_explain_place::first_place;
+use cr_explain::{Seen, TestSeen, explanation, first_place, places_of, read_refusal};
 use creduce_system::read_most;
 use std::alloc::AllocError;
 use std::os::unix::fs::MetadataExt;

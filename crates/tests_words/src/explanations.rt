@@ -1,6 +1,5 @@
 // What is said beside a status. What is wanted was found by hand: from the rules of the command line, and from the places in the texts.
-use cr_explain::{Place, Seen, TestSeen, asked_text, explanation};
-use cr_explain_place::first_place;
+use cr_explain::{Place, Seen, TestSeen, asked_text, explanation, first_place};
 use std::alloc::{AllocError, Global};
 use std::process::Abort;
 

@@ -1,8 +1,8 @@
-//! The tests of `cr_main_words`, `cr_around`, `cr_explain`, `cr_explain_place` and `cr_report`, by public names alone.
+//! The tests of `cr_main_words`, `cr_around`, `cr_explain` and `cr_report`, by public names alone.
 //!
 //! They stand apart from those of whole runs, so that they need nothing of what a run is made of. It promises nothing, and stands on
-//! `cr_main_words`, on `cr_outside`, whose `Test` is a part of its values, and on `cr_explain` and `cr_explain_place`, which say what is wrong
-//! with refused words and files, and on `cr_around` and `cr_report`, which have what is said before a run and behind it.
+//! `cr_main_words`, on `cr_outside`, whose `Test` is a part of its values, on `cr_explain`, which says what is wrong with refused words and
+//! files, and on `cr_around` and `cr_report`, which have what is said before a run and behind it.
 #![tactic(auto)]
 
 #[cfg(test)]

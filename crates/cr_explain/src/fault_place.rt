@@ -3,9 +3,10 @@ ghost use Rattle.std.specs.Prelude.{◌≡◌};
 ghost use Rattle.cr_syntax.specs.Words.{AreSpans};
 ghost use Rattle.cr_tokens.specs.Tokens.{Tokenizes};
 
+use crate::extensions::extension_remedy;
+use crate::place::{Place, is_of_library, text_at};
 use cr_check::{TypeFault, check};
 use cr_decls::parse;
-use cr_explain::{Place, extension_remedy, is_of_library, text_at};
 use cr_exprs_descent::ParseFault;
 use cr_scopes::{NameFault, Names, resolve_whole};
 use cr_syntax::{Unit, tokens_are_spans};
