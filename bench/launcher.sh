@@ -118,7 +118,8 @@ call --install "$folder/prefix"
 is "--install puts the program and what belongs to it" eval 'ended 0 && cmp -s "$program" "$folder/prefix/bin/creduce" && [ -f "$folder/prefix/share/man/man1/creduce.1" ]'
 is "and the record says whether it is the recorded one" eval '[ "$(sed -n "s/^program //p" "$folder/prefix/bin/creduce.record")" = "$(sha256sum <"$program" | cut -c 1-64)" ]'
 is "and what belongs to it is found from there" eval '"$folder/prefix/bin/creduce-new-test" 2>&1 | grep -q missed-optimisation'
-
+cp -r "$folder/prefix/share/creduce/examples/tests/." .
+is "and names the program beside it" eval '"$folder/prefix/bin/creduce-new-test" crash rotate.c bad="../faulty/crashing-cc -O2" good=gcc message="error: in expand_switch" test=mine.sh | grep -q "^Now: $folder/prefix/bin/creduce ./mine.sh"'
 
 is "it becomes the program: the status is the program's" eval 'program 6 "creduce: the test says no to f.c"; call has:x f.c; ended 6'
 sh -c 'exec "$@"' sh "$top/creduce" has:main f.c >&- 2>err.txt </dev/null
