@@ -10,7 +10,7 @@ failed=0
 # A top of its own: the launcher and the docs, one crate, and a program that says what the file "says" holds and ends with the status of "status".
 top=$folder/top
 mkdir -p "$top/crates/creduce/src" "$top/crates/creduce/out" "$folder/work"
-cp -r "$repository/creduce" "$repository/launcher" "$repository/docs" "$repository/examples" "$repository/include" "$repository"/creduce-* "$top/"
+cp -r "$repository/README.md" "$repository/creduce" "$repository/launcher" "$repository/docs" "$repository/examples" "$repository/include" "$repository"/creduce-* "$top/"
 echo 'creduce:' >"$top/crates.txt"
 echo 'Handles allowed: none.' >"$top/HANDLES"
 echo '//! A crate.' >"$top/crates/creduce/src/main.rt"
@@ -115,10 +115,11 @@ is "the gate tells where the record is of older sources" eval '"$top/release/ren
 mv "$top/release/creduce" "$program" && rm -r "$top/release"
 placed
 call --install "$folder/prefix"
-is "--install puts the program and what belongs to it" eval 'ended 0 && cmp -s "$program" "$folder/prefix/bin/creduce" && [ -f "$folder/prefix/share/man/man1/creduce.1" ]'
+is "--install puts the program and what belongs to it" eval 'ended 0 && cmp -s "$program" "$folder/prefix/bin/creduce" && [ -f "$folder/prefix/share/man/man1/creduce.1" ] && [ -f "$folder/prefix/share/creduce/README.md" ]'
 is "and the record says whether it is the recorded one" eval '[ "$(sed -n "s/^program //p" "$folder/prefix/bin/creduce.record")" = "$(sha256sum <"$program" | cut -c 1-64)" ]'
 is "and what belongs to it is found from there" eval '"$folder/prefix/bin/creduce-new-test" 2>&1 | grep -q missed-optimisation'
-
+cp -r "$folder/prefix/share/creduce/examples/tests/." .
+is "and names the program beside it" eval '"$folder/prefix/bin/creduce-new-test" crash rotate.c bad="../faulty/crashing-cc -O2" good=gcc message="error: in expand_switch" test=mine.sh | grep -q "^Now: $folder/prefix/bin/creduce ./mine.sh"'
 
 is "it becomes the program: the status is the program's" eval 'program 6 "creduce: the test says no to f.c"; call has:x f.c; ended 6'
 sh -c 'exec "$@"' sh "$top/creduce" has:main f.c >&- 2>err.txt </dev/null

@@ -19,8 +19,10 @@ file() {
 # words WORD..: what is said of these words.
 words() {
     printf -- '--- creduce %s\n' "$*"
-    timeout 20 "$program" "$@" 2>&1 </dev/null | head -n 12
-    echo "[status ${PIPESTATUS[0]}]"
+    timeout 20 "$program" "$@" >said.txt 2>&1 </dev/null
+    set -- $?
+    head -n 12 said.txt
+    echo "[status $1]"
 }
 
 printf '%s\n' '#!/bin/sh' 'grep -q main f.c' >t.sh && chmod +x t.sh

@@ -63,14 +63,15 @@ while [ "$kills" -lt "$most" ]; do
     number=$((reductions % 3))
     words=(--workers $((reductions % 8 + 1)) "${tests[number]}" f.c)
     cp whole.c f.c && rm -f f.c.orig f.c.log f.c.journal f.c.journal-words
-    how=--journal stood=0
+    how=--journal stood=0 last=$kills
     while killed "$number" "$how"; do
         kills=$((kills + 1))
-        [ "$kills" -lt "$most" ] || break
         now=$(standing f.c.journal)
         [ "$now" -ge "$stood" ] || failed "kill $kills left $now records of $stood"
         stood=$now
         how=--resume
+        # On a busy machine little more than the reading comes to pass between two kills, so each reduction has its share of them.
+        if [ "$kills" -ge "$most" ] || [ $((kills - last)) -ge $((most / 12 + 1)) ]; then break; fi
     done
     if [ "$status" = 137 ]; then
         "$program" --resume "${words[@]}" >said.txt 2>&1

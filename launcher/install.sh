@@ -25,7 +25,7 @@ install_below() {
     put 644 "$top/docs/creduce.1" share/man/man1/creduce.1 &&
         put 644 "$top/launcher/completion/creduce.bash" share/bash-completion/completions/creduce &&
         put 644 "$top/launcher/completion/_creduce" share/zsh/site-functions/_creduce || return 1
-    for file in "$top"/include/*.h "$top"/docs/*.md; do put 644 "$file" "share/creduce/${file#"$top"/}" || return 1; done
+    for file in "$top"/include/*.h "$top"/docs/*.md "$top/README.md"; do put 644 "$file" "share/creduce/${file#"$top"/}" || return 1; done
     while IFS= read -r file; do
         put "$(stat -c %a "$top/examples/$file")" "$top/examples/$file" "share/creduce/examples/$file" || return 1
     done < <(cd "$top/examples" && find . -type f | sed 's|^\./||')
