@@ -1,7 +1,9 @@
 -- A cell within the sums of its columns.
-use Rattle.std.proofs.Common.{◌≡◌, ℕ, ◌+◌, ◌-◌, ◌<◌, ◌≤◌, List, length, get_or, set, replicate, arith}
+use Rattle.std.proofs.Common.{◌≡◌, ℕ, ◌+◌, ◌-◌, ◌<◌, ◌≤◌, List, ◌∷◌, length, get_or, set, drop, replicate, add-one, slice_index_or, arith}
+use Rattle.std.proofs.Math.Seq.{drop-cons}
 use Rattle.std.proofs.lemmas.List.Sums.{sum_by-set, get_or-le-sum_by}
 use Rattle.std.proofs.lemmas.List.Folds.{sum_by-replicate}
+use Rattle.cr_reduce.specs.declared.end.Accepted.{Accepted}
 use Rattle.cr_report.specs.declared.cells.Cell.{Cell}
 use Rattle.cr_report.specs.Summed.{IsSummed, removed_in, rows_in, turns_in}
 
@@ -43,3 +45,7 @@ summed_none n one a t r =
 -- the same at any size
 pub summed_at : (cells : List Cell) (size : ℕ) → IsSummed cells 0 0 0 0 → IsSummed cells 0 0 size size
 summed_at cells size s = record { accepted = s.accepted; spent = s.spent; removed = omega (arith, s.removed) }
+
+-- what is left from an index on begins with the one there
+pub rest_from : (rows : List Accepted) (at : ℕ) (d : Accepted) → at < length rows → drop at rows ≡ slice_index_or rows at d ∷ drop (at + 1) rows
+rest_from rows at d h = rw add-one (drop-cons rows at d h)

@@ -88,8 +88,8 @@ fn mark_at(
 
 // Whether a reduction goes through this line at this column.
 fn is_at(of: &Reduction, scale: Scale, column: u32, line: u64) -> bool {
-    let turns = u128::from(scale.long) * u128::from(column);
-    if turns > u128::from(of.turns) * u128::from(WIDE) {
+    let turns = u128::from(scale.long).saturating_mul(u128::from(column));
+    if turns > u128::from(of.turns).saturating_mul(u128::from(WIDE)) {
         return false;
     }
     parts_of(size_at(of, turns, WIDE), scale.high, TALL - 1) == line

@@ -38,7 +38,7 @@ fn push_summary(text: &mut String, named: Named<'_>) -> Result<(), AllocError> {
         None => write!(text, "unknown to {size}")?,
         Some(0) => write!(text, "0 to {size}")?,
         Some(first) => {
-            let share = 100 * u128::from(size) / u128::from(first);
+            let share = u128::from(size).saturating_mul(100) / u128::from(first);
             write!(text, "{first} to {size} ({share} %)")?;
         }
     }
