@@ -248,6 +248,21 @@ fn bench<'a>(
     Bench::new(rt.alloc(), judges)
 }
 
+// Reduces, and then says that it is over.
+fn reduce_until(
+    rt: &HostRuntime,
+    threads: &(impl Threads + Wait + Sync),
+    words: &[String],
+    world: &mut StdDisk<'_, HostRuntime>,
+    bench: &mut Bench<ProcessJudge<'_, HostRuntime>>,
+    out: &mut StdOut<'_, HostRuntime>,
+    over: &AtomicBool,
+) -> u8 {
+    let status = run_more(threads, rt.alloc(), words, world, bench, out);
+    over.store(true, Ordering::SeqCst);
+    status
+}
+
 fn reduce(
     rt: &HostRuntime,
     threads: &(impl Threads + Wait + Sync),
@@ -265,11 +280,7 @@ fn reduce(
     let (_, status) = thread::join(
         threads,
         || progress.tick(rt, &over),
-        || {
-            let status = run_more(threads, rt.alloc(), words, &mut world, &mut bench, &mut out);
-            over.store(true, Ordering::SeqCst);
-            status
-        },
+        || reduce_until(rt, threads, words, &mut world, &mut bench, &mut out, &over),
     );
     progress.finish(rt);
     if let Some(kept) = world.kept() {

@@ -49,7 +49,7 @@ TEST and FILE are two words, and here is only \"a\"|--limit|--journal|5|a
 --reached takes an identifier of C, and not \"9a\"|--reached=9a|a|b
 --reached takes an identifier of C, and not \"\"|--reached=|a|b
 --reached has its label in the same word, as --reached=NAME|--reached|A|a|b
---reached stands twice|--reached=A|a|b|--reached=A
+--reached=A stands twice|--reached=A|a|b|--reached=A
 --reached stands twice|--reached=A|a|b|--reached=B
 --reached doesn't stand with --replay|--replay|--reached=A|a|b
 did you mean --reached?|--reach=A|a|b
