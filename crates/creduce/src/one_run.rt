@@ -9,7 +9,8 @@ use crate::watched::watching;
 use cr_around::{JournalWords, Plain, test_word};
 use cr_main::run_more;
 use cr_main_words::{Engine, Modes, Request, Settings, Source, request_of};
-use cr_outside::Test;
+use cr_outside::{Files, Judge, Sink, Test};
+use cr_outside_disk::Disk;
 use cr_pool::Bench;
 use creduce_system::{ProcessJudge, Progress, Shown, StdDisk, StdOut, columns};
 use std::alloc::AllocError;
@@ -248,6 +249,45 @@ fn bench<'a>(
     Bench::new(rt.alloc(), judges)
 }
 
+// Says what became of files that are somebody else's.
+fn say_files(rt: &HostRuntime, world: &StdDisk<'_, HostRuntime>) {
+    if let Some(kept) = world.kept() {
+        let kept = Plain(kept.as_str());
+        let _ = eprintln!(rt; "creduce: the copy of an earlier run is kept as {kept}");
+    }
+    if world.was_changed() {
+        let _ = eprintln!(rt;
+            "creduce: the file was changed while it was reduced, and is left as it is now"
+        );
+    }
+}
+
+fn end_of(
+    rt: &HostRuntime,
+    status: u8,
+    world: &StdDisk<'_, HostRuntime>,
+    out: &StdOut<'_, HostRuntime>,
+) -> Result<Ended, AllocError> {
+    let put = out.so_far().to_vec(rt.alloc())?;
+    Ok(Ended {
+        status,
+        put,
+        was_changed: world.was_changed(),
+    })
+}
+
+// `run_more` for any world: what it promises is said there, and its clauses over the system's own types would be too large to read here.
+fn reduce_in<W: Files + Disk, J: Judge + Send + Drop, O: Sink>(
+    rt: &HostRuntime,
+    threads: &(impl Threads + Wait + Sync),
+    words: &[String],
+    world: &mut W,
+    bench: &mut Bench<J>,
+    out: &mut O,
+) -> u8 {
+    run_more(threads, rt.alloc(), words, world, bench, out)
+}
+
 // Reduces, and then says that it is over.
 fn reduce_until(
     rt: &HostRuntime,
@@ -258,8 +298,27 @@ fn reduce_until(
     out: &mut StdOut<'_, HostRuntime>,
     over: &AtomicBool,
 ) -> u8 {
-    let status = run_more(threads, rt.alloc(), words, world, bench, out);
+    let status = reduce_in(rt, threads, words, world, bench, out);
     over.store(true, Ordering::SeqCst);
+    status
+}
+
+// Reduces, and shows meanwhile how far it is.
+fn reduce_shown(
+    rt: &HostRuntime,
+    threads: &(impl Threads + Wait + Sync),
+    words: &[String],
+    world: &mut StdDisk<'_, HostRuntime>,
+    bench: &mut Bench<ProcessJudge<'_, HostRuntime>>,
+    out: &mut StdOut<'_, HostRuntime>,
+    progress: &Progress<'_>,
+) -> u8 {
+    let over = AtomicBool::new(false);
+    let (_, status) = thread::join(
+        threads,
+        || progress.tick(rt, &over),
+        || reduce_until(rt, threads, words, world, bench, out, &over),
+    );
     status
 }
 
@@ -276,27 +335,12 @@ fn reduce(
     // The files, and the journal beside one of them.
     let mut world = StdDisk::new(rt, reduced).noting(journal_words);
     let mut out = StdOut::new(rt, rt.alloc()).behind(progress);
-    let over = AtomicBool::new(false);
-    let (_, status) = thread::join(
-        threads,
-        || progress.tick(rt, &over),
-        || reduce_until(rt, threads, words, &mut world, &mut bench, &mut out, &over),
+    let status = reduce_shown(
+        rt, threads, words, &mut world, &mut bench, &mut out, progress,
     );
     progress.finish(rt);
-    if let Some(kept) = world.kept() {
-        let kept = Plain(kept.as_str());
-        let _ = eprintln!(rt; "creduce: the copy of an earlier run is kept as {kept}");
-    }
-    if world.was_changed() {
-        let _ = eprintln!(rt;
-            "creduce: the file was changed while it was reduced, and is left as it is now"
-        );
-    }
-    Ok(Ended {
-        status,
-        put: out.so_far().to_vec(rt.alloc())?,
-        was_changed: world.was_changed(),
-    })
+    say_files(rt, &world);
+    end_of(rt, status, &world, &out)
 }
 
 // Whether the file has the result then, so that no smallest file is needed beside it: at 8 too, where a variant's test failed.
