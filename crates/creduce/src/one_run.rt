@@ -6,13 +6,13 @@ use crate::journal::{tidy_words, words_of};
 use crate::refused::begun;
 use crate::usual::with_workers;
 use crate::watched::watching;
-use cr_around::{JournalWords, Plain, test_word};
+use cr_around::{Begun, JournalWords, Plain, test_word};
 use cr_main::run_more;
 use cr_main_words::{Engine, Modes, Request, Settings, Source, request_of};
 use cr_outside::{Files, Judge, Sink, Test};
 use cr_outside_disk::Disk;
 use cr_pool::Bench;
-use creduce_system::{ProcessJudge, Progress, Shown, StdDisk, StdOut, columns};
+use creduce_system::{Lock, ProcessJudge, Progress, Shown, StdDisk, StdOut, columns};
 use std::alloc::AllocError;
 use std::io::IsTerminal;
 use std::os::unix::fs::MetadataExt;
@@ -74,35 +74,75 @@ pub fn run(
     threads: &(impl Threads + Wait + Sync),
     words: &[String],
 ) -> Result<Ended, AllocError> {
-    // What is said to people has the words as they were given.
-    let all = with_workers(rt.alloc(), threads, words)?;
-    match request_of(rt.alloc(), all.as_slice(), JUDGES) {
+    match with_workers(rt.alloc(), threads, words) {
+        Ok(all) => run_all(rt, threads, words, all.as_slice()),
+        Err(fault) => Err(fault),
+    }
+}
+
+// What is said to people has the words as they were given; `all` are those with the number of workers.
+fn run_all(
+    rt: &HostRuntime,
+    threads: &(impl Threads + Wait + Sync),
+    words: &[String],
+    all: &[String],
+) -> Result<Ended, AllocError> {
+    match request_of(rt.alloc(), all, JUDGES) {
         Ok(Request::Reduction(settings, modes)) => {
-            let mark = mark(rt)?;
-            let reached = label_of(rt, &modes)?;
-            let run = Subject {
-                words,
-                name: name_of(&settings),
-                test: test_word(words).unwrap_or(""),
-                is_program: is_program(&settings.test),
-                workers: settings.workers,
-                modes: &modes,
-                reached: &reached,
-                mark: mark.as_str(),
-                is_quiet: is_quiet(rt),
-            };
-            begin(rt, threads, all.as_slice(), &run)
+            run_marked(rt, threads, words, all, &settings, &modes)
         }
         // A replay has no test, and of other words `run_more` says that they are in no form.
         Ok(Request::Replay(_)) | Err(_) => reduce(
             rt,
             threads,
-            all.as_slice(),
+            all,
             None,
             "",
             &Progress::new(rt, Shown::Nothing, 0, None),
             None,
         ),
+    }
+}
+
+fn run_marked(
+    rt: &HostRuntime,
+    threads: &(impl Threads + Wait + Sync),
+    words: &[String],
+    all: &[String],
+    settings: &Settings,
+    modes: &Modes,
+) -> Result<Ended, AllocError> {
+    match mark(rt) {
+        Ok(mark) => run_labelled(rt, threads, words, all, settings, modes, mark.as_str()),
+        Err(fault) => Err(fault),
+    }
+}
+
+fn run_labelled(
+    rt: &HostRuntime,
+    threads: &(impl Threads + Wait + Sync),
+    words: &[String],
+    all: &[String],
+    settings: &Settings,
+    modes: &Modes,
+    mark: &str,
+) -> Result<Ended, AllocError> {
+    match label_of(rt, modes) {
+        Ok(reached) => {
+            let run = Subject {
+                words,
+                name: name_of(settings),
+                test: test_word(words).unwrap_or(""),
+                is_program: is_program(&settings.test),
+                workers: settings.workers,
+                modes,
+                reached: &reached,
+                mark,
+                is_quiet: is_quiet(rt),
+            };
+            begin(rt, threads, all, &run)
+        }
+        Err(fault) => Err(fault),
     }
 }
 
@@ -155,15 +195,54 @@ fn begin(
     words: &[String],
     run: &Subject<'_>,
 ) -> Result<Ended, AllocError> {
-    let Some(begun) = begun(rt, run)? else {
-        return Ok(refused(rt));
-    };
-    let Ok(lock) = own_folders(rt, run)? else {
-        return Ok(refused(rt));
-    };
-    let journal_words = words_of(rt, run, begun)?;
+    match begun(rt, run) {
+        Ok(Some(begun)) => own(rt, threads, words, run, begun),
+        Ok(None) => Ok(refused(rt)),
+        Err(fault) => Err(fault),
+    }
+}
+
+fn own(
+    rt: &HostRuntime,
+    threads: &(impl Threads + Wait + Sync),
+    words: &[String],
+    run: &Subject<'_>,
+    begun: Begun,
+) -> Result<Ended, AllocError> {
+    match own_folders(rt, run) {
+        Ok(Ok(lock)) => keep(rt, threads, words, run, begun, lock.as_ref()),
+        Ok(Err(_)) => Ok(refused(rt)),
+        Err(fault) => Err(fault),
+    }
+}
+
+fn keep(
+    rt: &HostRuntime,
+    threads: &(impl Threads + Wait + Sync),
+    words: &[String],
+    run: &Subject<'_>,
+    begun: Begun,
+    lock: Option<&Lock>,
+) -> Result<Ended, AllocError> {
+    match words_of(rt, run, begun) {
+        Ok(journal_words) => watch_over(rt, threads, words, run, lock, journal_words),
+        Err(fault) => Err(fault),
+    }
+}
+
+fn watch_over(
+    rt: &HostRuntime,
+    threads: &(impl Threads + Wait + Sync),
+    words: &[String],
+    run: &Subject<'_>,
+    lock: Option<&Lock>,
+    journal_words: Option<JournalWords>,
+) -> Result<Ended, AllocError> {
     let progress = progress_of(rt, run);
-    let watchman = watching(rt, run, lock.as_ref())?;
+    let watchman = match watching(rt, run, lock) {
+        Ok(watchman) => watchman,
+        Err(fault) => return Err(fault),
+    };
     let ended = reduce(
         rt,
         threads,
@@ -177,13 +256,24 @@ fn begin(
         // It goes by itself where it can't be told.
         let _ = watchman.dismiss();
     }
-    let ended = ended?;
+    match ended {
+        Ok(ended) => settle(rt, run, &progress, ended),
+        Err(fault) => Err(fault),
+    }
+}
+
+fn settle(
+    rt: &HostRuntime,
+    run: &Subject<'_>,
+    progress: &Progress<'_>,
+    ended: Ended,
+) -> Result<Ended, AllocError> {
     tidy_words(rt, run)?;
     if is_over(&ended) {
         // What stays there all the same is a smaller file that passed the test.
         let _ = progress.remove(rt, rt.alloc());
     } else {
-        say_best(rt, run, &progress);
+        say_best(rt, run, progress);
     }
     Ok(ended)
 }
