@@ -15,7 +15,7 @@ mod version;
 mod watched;
 
 use crate::asked::asked;
-use crate::one_run::run;
+use crate::one_run::{Ended, run};
 use crate::report::report;
 use crate::said::explain;
 use crate::version::version;
@@ -47,23 +47,52 @@ fn words(rt: &HostRuntime) -> Result<Vec<String>, AllocError> {
 }
 
 fn answer(rt: &HostRuntime, threads: &(impl Threads + Wait + Sync)) -> Result<u8, AllocError> {
-    let words = words(rt)?;
-    if let Some(status) = asked(rt, words.as_slice())? {
-        return Ok(status);
+    match words(rt) {
+        Ok(words) => answer_to(rt, threads, words.as_slice()),
+        Err(fault) => Err(fault),
     }
-    if words
-        .first()
-        .is_some_and(|word| word.as_str() == "--version")
-    {
-        return version(rt);
+}
+
+fn answer_to(
+    rt: &HostRuntime,
+    threads: &(impl Threads + Wait + Sync),
+    words: &[String],
+) -> Result<u8, AllocError> {
+    match asked(rt, words) {
+        Ok(Some(status)) => Ok(status),
+        Ok(None) => do_task(rt, threads, words),
+        Err(fault) => Err(fault),
     }
-    if let [first, rest @ ..] = words.as_slice() {
-        if first.as_str() == "--report" {
-            return report(rt, rest);
-        }
+}
+
+fn do_task(
+    rt: &HostRuntime,
+    threads: &(impl Threads + Wait + Sync),
+    words: &[String],
+) -> Result<u8, AllocError> {
+    let Some((first, rest)) = words.split_first() else {
+        return reduced(rt, threads, words);
+    };
+    match first.as_str() {
+        "--version" => version(rt),
+        "--report" => report(rt, rest),
+        _ => reduced(rt, threads, words),
     }
-    let ended = run(rt, threads, &words)?;
-    explain(rt, words.as_slice(), &ended)?;
+}
+
+fn reduced(
+    rt: &HostRuntime,
+    threads: &(impl Threads + Wait + Sync),
+    words: &[String],
+) -> Result<u8, AllocError> {
+    match run(rt, threads, words) {
+        Ok(ended) => status_of(rt, words, &ended),
+        Err(fault) => Err(fault),
+    }
+}
+
+fn status_of(rt: &HostRuntime, words: &[String], ended: &Ended) -> Result<u8, AllocError> {
+    explain(rt, words, ended)?;
     Ok(ended.status)
 }
 
