@@ -17,8 +17,7 @@ use std::alloc::AllocError;
 use std::io::IsTerminal;
 use std::os::unix::fs::MetadataExt;
 use std::sync::Wait;
-use std::sync::atomic::{AtomicBool, Ordering};
-use std::thread::{self, Threads};
+use std::thread::Threads;
 use std::time::SystemTime;
 use std::{env, fs, process};
 
@@ -378,40 +377,6 @@ fn reduce_in<W: Files + Disk, J: Judge + Send + Drop, O: Sink>(
     run_more(threads, rt.alloc(), words, world, bench, out)
 }
 
-// Reduces, and then says that it is over.
-fn reduce_until(
-    rt: &HostRuntime,
-    threads: &(impl Threads + Wait + Sync),
-    words: &[String],
-    world: &mut StdDisk<'_, HostRuntime>,
-    bench: &mut Bench<ProcessJudge<'_, HostRuntime>>,
-    out: &mut StdOut<'_, HostRuntime>,
-    over: &AtomicBool,
-) -> u8 {
-    let status = reduce_in(rt, threads, words, world, bench, out);
-    over.store(true, Ordering::SeqCst);
-    status
-}
-
-// Reduces, and shows meanwhile how far it is.
-fn reduce_shown(
-    rt: &HostRuntime,
-    threads: &(impl Threads + Wait + Sync),
-    words: &[String],
-    world: &mut StdDisk<'_, HostRuntime>,
-    bench: &mut Bench<ProcessJudge<'_, HostRuntime>>,
-    out: &mut StdOut<'_, HostRuntime>,
-    progress: &Progress<'_>,
-) -> u8 {
-    let over = AtomicBool::new(false);
-    let (_, status) = thread::join(
-        threads,
-        || progress.tick(rt, &over),
-        || reduce_until(rt, threads, words, world, bench, out, &over),
-    );
-    status
-}
-
 fn reduce(
     rt: &HostRuntime,
     threads: &(impl Threads + Wait + Sync),
@@ -425,9 +390,7 @@ fn reduce(
     // The files, and the journal beside one of them.
     let mut world = StdDisk::new(rt, reduced).noting(journal_words);
     let mut out = StdOut::new(rt, rt.alloc()).behind(progress);
-    let status = reduce_shown(
-        rt, threads, words, &mut world, &mut bench, &mut out, progress,
-    );
+    let status = reduce_in(rt, threads, words, &mut world, &mut bench, &mut out);
     progress.finish(rt);
     say_files(rt, &world);
     end_of(rt, status, &world, &out)
