@@ -13,7 +13,7 @@ use Rattle.cr_meaning.specs.declared.value.Value.{Value}
 use Rattle.cr_meaning.specs.declared.value.Value.TheVariants as value
 use Rattle.cr_meaning.proofs.Runs.{one_meaning}
 use Rattle.cr_memory.specs.declared.value.Trap.TheVariants as trap
-use Rattle.cr_exec_slices.specs.Looks.{HasLooked, given_up}
+use Rattle.cr_exec_slices.specs.Looks.{LooksOf}
 use Rattle.cr_meaning_seen.specs.Marks.{Mark}
 use Rattle.cr_meaning_seen.proofs.Seeing.{sights_are_runs}
 use Rattle.cr_exec_slices.specs.Shown.{Answering, ComesTo, MarkedRun}
@@ -78,6 +78,33 @@ watched_by now p root before after outcome result r b h e come =
     let Q : World → Type 0 = λ w. ComesTo shows now p (root_of p) w outcome after in
     let R : Run → Type 0 = λ o. IsWatched now p o in
     subst R (sym e) (comes_so now p after outcome (subst Q b (subst P r h)) (ap has_come (sym e) ∙ come))
+
+-- ---- the looks
+
+looked_by : (limits : Limits) (w : World) (outcome : Outcome Held) (before looks : ℕ) → LooksOf outcome before looks (limits.steps - w.steps) → Looked (run_from limits w outcome) limits.steps before looks
+looked_by limits w (Came (held.Returned (value.Number kind v))) before looks h = h
+looked_by limits w (Came (held.Returned value.Nothing)) before looks h = tt
+looked_by limits w (Came (held.Returned (value.Pointer at))) before looks h = tt
+looked_by limits w (Came (held.Returned (value.Place at))) before looks h = tt
+looked_by limits w (Came (held.Returned (value.Cells cells))) before looks h = tt
+looked_by limits w (Came (held.Part given)) before looks h = tt
+looked_by limits w (Came held.Next) before looks h = tt
+looked_by limits w (Came held.Broke) before looks h = tt
+looked_by limits w (Came held.Continued) before looks h = tt
+looked_by limits w (Came (held.Jumped label)) before looks h = tt
+looked_by limits w (Halted (halted.Undefined number node)) before looks h = (limits.steps - w.steps, (omega arith, h))
+looked_by limits w (Halted (halted.Left number node)) before looks h = (limits.steps - w.steps, (omega arith, h))
+looked_by limits w (Halted (halted.Exited status)) before looks h = h
+looked_by limits w (Halted halted.NoMemory) before looks h = tt
+looked_by limits w Stopped before looks h = (h.0, (let few = h.1.0 in omega (arith, few), h.1.1))
+
+-- of a run from the start
+pub looked_so : (limits : Limits) (start after : World) (outcome : Outcome Held) (result : Run) (before looks : ℕ) → start ≡ start_of limits → result ≡ run_from limits after outcome
+    → LooksOf outcome before looks (start.steps - after.steps) → Looked result limits.steps before looks
+looked_so limits start after outcome result before looks b e h =
+    let F : World → Type 0 = λ w. LooksOf outcome before looks (w.steps - after.steps) in
+    let G : Run → Type 0 = λ r. Looked r limits.steps before looks in
+    subst G (sym e) (looked_by limits after outcome before looks (subst F b h))
 
 pub only_this : (p : Program) (result : Run) → (has_come result ≡ true → Means p result) → (outcome : Run) → Means p outcome → has_come result ≡ true → outcome ≡ result
 only_this p result f outcome m e = one_meaning p outcome result m (f e)

@@ -40,7 +40,8 @@ run_from limits world (Halted halted.NoMemory) = run.NoMemory
 run_from limits world Stopped = run.Stopped
 
 -- how often the stop was asked, between these two counts, in a run that may take so many steps: before the first step and after each
--- 4,096 steps. Where the run was stopped the next 4,096 steps were not taken. Nothing is said of want of memory
+-- 4,096 steps. Where the run was stopped it was at the look behind so many steps: beyond them it took none, or only those that a node
+-- takes at once. Nothing is said of want of memory
 abbrev pub Looked : Run → ℕ → ℕ → ℕ → Type 0
 Looked (run.Ended status output steps) most before after = HasLooked before after steps 0
 Looked run.Stopped most before after = (taken : ℕ) × ((taken ≤ most) × HasLooked before after taken 4096)

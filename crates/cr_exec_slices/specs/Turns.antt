@@ -59,7 +59,7 @@ abbrev pub way_at : Program → ℕ → List Answer → Way
 way_at p node done = way_by done (slice_get p.ops node)
 
 abbrev pub reached_at : Program → ℕ → World → Act
-reached_at p node = reached node (slice_get p.ops node)
+reached_at p node = reached p node (slice_get p.ops node)
 
 abbrev pub before_for : Program → ℕ → List Answer → Option Op → World → Act
 before_for p node done None = λ world. stops untyped node

@@ -1,12 +1,12 @@
 // The machine, in slices.
-ghost use Rattle.std.specs.Prelude.{◌≡◌, ◌≢◌, ◌≤◌, ◌<◌, ◌+◌, ◌-◌, ◌*◌, ◌++◌, IfSome, MatchBool, MatchOption, OnOk, replicate, take, false, true, List, []};
+ghost use Rattle.std.specs.Prelude.{◌≡◌, ℕ, ◌≤◌, ◌<◌, ◌+◌, ◌-◌, ◌*◌, ◌++◌, IfSome, MatchBool, MatchOption, OnOk, replicate, take, false, true, List, []};
 ghost use Rattle.cr_meaning.specs.World.{Answer as SpecAnswer, next as followed};
 ghost use Rattle.cr_meaning.specs.Turns.{Enter as TurnsEnter, Resume as TurnsResume, Ready as TurnsReady};
 ghost use Rattle.cr_exec_stack.specs.Waiting.{Waiting, with_more};
 ghost use Rattle.cr_exec_slices.specs.Turns.{way_at, reaching, turning};
-ghost use Rattle.cr_exec_slices.specs.Shown.{fresh_of, place_of, came, ShowsWaiting, TakesAtMostOne, Turns, ComesTo};
+ghost use Rattle.cr_exec_slices.specs.Shown.{fresh_of, place_of, came, ShowsWaiting, Turns, ComesTo};
 ghost use Rattle.cr_meaning_seen.specs.Marks.{Mark};
-ghost use Rattle.cr_exec_slices.specs.Looks.{HasLooked, given_up};
+ghost use Rattle.cr_exec_slices.specs.Looks.{IsOver, IsInSlice, HasCaughtUp, HasStopped, LooksOf};
 ghost use Rattle.cr_exec_slices.specs.declared.machine.Point.{Point as SpecPoint};
 
 use crate::nodes::{Fresh, Halted, Nodes, Way};
@@ -78,7 +78,7 @@ fn reach<N: Nodes>(nodes: &mut N, stack: &mut Stack<N::Held>, node: u32) -> Resu
         → Turns N.shows (N.has_seen nodes.new) (N.program nodes.old) (record { place = reaching node; waiting = waiting; world = (N.world nodes.old, marks) })
         result stack.new (N.world nodes.new) }
     ensures program { N.program nodes.new ≡ N.program nodes.old }
-    ensures steps { TakesAtMostOne (N.world nodes.old).steps (N.world nodes.new).steps }
+    ensures fewer { (N.world nodes.new).steps ≤ (N.world nodes.old).steps }
 {
     nodes.reach(node)?;
     let Ok(()) = stack.begin(node) else {
@@ -95,7 +95,7 @@ fn enter<N: Nodes>(nodes: &mut N, stack: &mut Stack<N::Held>, part: u32) -> Resu
         → Turns N.shows (N.has_seen nodes.new) (N.program nodes.old) (record { place = turning; waiting = waiting; world = (N.world nodes.old, marks) })
         result stack.new (N.world nodes.new) }
     ensures program { N.program nodes.new ≡ N.program nodes.old }
-    ensures steps { TakesAtMostOne (N.world nodes.old).steps (N.world nodes.new).steps }
+    ensures fewer { (N.world nodes.new).steps ≤ (N.world nodes.old).steps }
 {
     nodes.before(stack.node(), stack.done())?;
     Ok(Turned::Goes(Point::Reach(part)))
@@ -114,7 +114,7 @@ fn resume<N: Nodes>(
         → Turns N.shows (N.has_seen nodes.new) (N.program nodes.old) (record { place = turning; waiting = waiting; world = (N.world nodes.old, marks) })
         result stack.new (N.world nodes.new) }
     ensures program { N.program nodes.new ≡ N.program nodes.old }
-    ensures steps { TakesAtMostOne (N.world nodes.old).steps (N.world nodes.new).steps }
+    ensures fewer { (N.world nodes.new).steps ≤ (N.world nodes.old).steps }
 {
     nodes.before(stack.node(), stack.done())?;
     stack.keep(count);
@@ -134,7 +134,7 @@ fn join<N: Nodes>(nodes: &mut N, stack: &mut Stack<N::Held>) -> Result<Turned, H
         → Turns N.shows (N.has_seen nodes.new) (N.program nodes.old) (record { place = turning; waiting = waiting; world = (N.world nodes.old, marks) })
         result stack.new (N.world nodes.new) }
     ensures program { N.program nodes.new ≡ N.program nodes.old }
-    ensures steps { TakesAtMostOne (N.world nodes.old).steps (N.world nodes.new).steps }
+    ensures fewer { (N.world nodes.new).steps ≤ (N.world nodes.old).steps }
 {
     nodes.join(stack)?;
     if stack.hand_up() {
@@ -152,7 +152,7 @@ fn go_on<N: Nodes>(nodes: &mut N, stack: &mut Stack<N::Held>) -> Result<Turned, 
         → Turns N.shows (N.has_seen nodes.new) (N.program nodes.old) (record { place = turning; waiting = waiting; world = (N.world nodes.old, marks) })
         result stack.new (N.world nodes.new) }
     ensures program { N.program nodes.new ≡ N.program nodes.old }
-    ensures steps { TakesAtMostOne (N.world nodes.old).steps (N.world nodes.new).steps }
+    ensures fewer { (N.world nodes.new).steps ≤ (N.world nodes.old).steps }
 {
     match nodes.next(stack.node(), stack.done()) {
         Way::Operand(part) => Ok(Turned::Goes(Point::Reach(part))),
@@ -163,7 +163,7 @@ fn go_on<N: Nodes>(nodes: &mut N, stack: &mut Stack<N::Held>) -> Result<Turned, 
     }
 }
 
-/// One turn, which takes a step at most.
+/// One turn.
 #[inline]
 fn turn<N: Nodes>(nodes: &mut N, stack: &mut Stack<N::Held>, point: Point) -> Result<Turned, Halted>
     ensures turns { (waiting : Waiting SpecAnswer) → ShowsWaiting N.shows stack.old waiting
@@ -171,7 +171,7 @@ fn turn<N: Nodes>(nodes: &mut N, stack: &mut Stack<N::Held>, point: Point) -> Re
         → Turns N.shows (N.has_seen nodes.new) (N.program nodes.old) (record { place = place_of point; waiting = waiting; world = (N.world nodes.old, marks) })
         result stack.new (N.world nodes.new) }
     ensures program { N.program nodes.new ≡ N.program nodes.old }
-    ensures steps { TakesAtMostOne (N.world nodes.old).steps (N.world nodes.new).steps }
+    ensures fewer { (N.world nodes.new).steps ≤ (N.world nodes.old).steps }
 {
     match point {
         Point::Reach(node) => reach(nodes, stack, node),
@@ -179,13 +179,13 @@ fn turn<N: Nodes>(nodes: &mut N, stack: &mut Stack<N::Held>, point: Point) -> Re
     }
 }
 
-/// Whether just so many steps are left as a slice is to leave.
+/// Whether no more steps are left than a slice is to leave.
 #[inline]
-fn is_at(until: Option<u64>, steps: u64) -> bool
-    ensures { MatchBool result (until ≡ Some steps) (until ≢ Some steps) }
+fn is_over(until: Option<u64>, steps: u64) -> bool
+    ensures { result ≡ true → IsOver until steps }
 {
     match until {
-        Some(until) => until == steps,
+        Some(until) => steps <= until,
         None => false,
     }
 }
@@ -202,29 +202,27 @@ fn turns_left(idle: u64, before: u64, after: u64) -> Option<u64>
     idle.checked_sub(1)
 }
 
-/// Takes turns until so many steps are left, or to the end. Between two steps there are never 2^64 turns, which would take longer than
-/// there is time; a program of the subset declares, passes and leaves no more than its file has.
+/// Takes turns until no more than so many steps are left, or to the end. Between two steps there are never 2^64 turns, which would take
+/// longer than there is time; a program of the subset declares, passes and leaves no more than its file has.
 fn slice<N: Nodes>(
     nodes: &mut N,
     stack: &mut Stack<N::Held>,
     from: Point,
     until: Option<u64>,
 ) -> Result<Turned, Halted>
-    requires { IfSome until (λ steps. steps ≤ (N.world nodes.old).steps) }
     ensures turns { (waiting : Waiting SpecAnswer) → ShowsWaiting N.shows stack.old waiting
         → (marks : List Mark) → N.has_seen nodes.old marks
         → Turns N.shows (N.has_seen nodes.new) (N.program nodes.old) (record { place = place_of from; waiting = waiting; world = (N.world nodes.old, marks) })
         result stack.new (N.world nodes.new) }
     ensures program { N.program nodes.new ≡ N.program nodes.old }
     ensures fewer { (N.world nodes.new).steps ≤ (N.world nodes.old).steps }
-    ensures within { IfSome until (λ steps. steps ≤ (N.world nodes.new).steps) }
-    ensures paused { (point : SpecPoint) → result ≡ Ok (Turned.Goes point) → until ≡ Some (N.world nodes.new).steps }
+    ensures paused { (point : SpecPoint) → result ≡ Ok (Turned.Goes point) → IsOver until (N.world nodes.new).steps }
 {
     let mut point = from;
     let mut idle = u64::MAX;
     loop {
         let steps = nodes.steps();
-        if is_at(until, steps) {
+        if is_over(until, steps) {
             return Ok(Turned::Goes(point));
         }
         point = match turn(nodes, stack, point)? {
@@ -238,11 +236,44 @@ fn slice<N: Nodes>(
     }
 }
 
-/// How many steps a slice is to leave, if it isn't the last one.
+/// How many steps a slice is to leave that began with so many, if it isn't the last one.
 fn slice_end(steps: u64) -> Option<u64>
     ensures { MatchOption result (steps < 4096) (λ until. until + 4096 ≡ steps) }
 {
     steps.checked_sub(STEPS_OF_A_SLICE)
+}
+
+/// How many steps the slice was to leave that is over.
+fn left_by(until: Option<u64>) -> u64
+    ensures { IfSome until (λ steps. result ≡ steps) }
+{
+    match until {
+        Some(steps) => steps,
+        None => 0,
+    }
+}
+
+/// The looks after the slices behind the one that began with `from` steps, where `left` are left: a node may have taken the steps of several
+/// slices. Whether the stop asked to give up.
+fn catch_up<S: Stop>(stop: &mut S, from: u64, left: u64) -> bool
+    requires raised { S.raised stop.old ≡ false }
+    requires behind { left ≤ from }
+    ensures raised { S.raised stop.new ≡ result }
+    ensures held { S.held stop.new ≡ S.held stop.old }
+    ensures looked { (before start : ℕ) → IsInSlice before (S.looks stop.old) start from
+        → MatchBool result (HasStopped before (S.looks stop.new) (start - left)) (HasCaughtUp before (S.looks stop.new) (start - left)) }
+{
+    let mut from = from;
+    while let Some(until) = slice_end(from) {
+        if until <= left {
+            return false;
+        }
+        if stop.stop() {
+            return true;
+        }
+        from = until;
+    }
+    false
 }
 
 /// The end of a run whose last node has answered.
@@ -269,19 +300,33 @@ pub fn run_nodes<N: Nodes, S: Stop>(
     ensures program { N.program nodes.new ≡ N.program nodes.old }
     ensures fewer { (N.world nodes.new).steps ≤ (N.world nodes.old).steps }
     // There was a look before the first step, and one after each slice.
-    ensures looked { HasLooked (S.looks stop.old) (S.looks stop.new) ((N.world nodes.old).steps - (N.world nodes.new).steps) (given_up result) }
+    ensures looked { LooksOf result (S.looks stop.old) (S.looks stop.new) ((N.world nodes.old).steps - (N.world nodes.new).steps) }
 {
     let mut stack = Stack::new(alloc, node);
     let mut point = Point::Turn;
+    let mut from = nodes.steps();
     loop {
         if stop.stop() {
             return Outcome::Stopped;
         }
-        let until = slice_end(nodes.steps());
+        let until = slice_end(from);
         match slice(nodes, &mut stack, point, until) {
-            Ok(Turned::Goes(next)) => point = next,
-            Ok(Turned::Came) => return came(stack.pop()),
-            Err(halted) => return Outcome::Halted(halted),
+            Ok(Turned::Goes(next)) => {
+                point = next;
+                from = left_by(until);
+            }
+            Ok(Turned::Came) => {
+                if catch_up(stop, from, nodes.steps()) {
+                    return Outcome::Stopped;
+                }
+                return came(stack.pop());
+            }
+            Err(halted) => {
+                if catch_up(stop, from, nodes.steps()) {
+                    return Outcome::Stopped;
+                }
+                return Outcome::Halted(halted);
+            }
         }
     }
 }

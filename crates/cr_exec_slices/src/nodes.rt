@@ -68,12 +68,12 @@ pub trait Nodes {
     fn steps(&self) -> u64
         ensures { result ≡ (world self.now).steps };
 
-    /// A node is reached, which may take a step.
+    /// A node is reached, which may take steps.
     fn reach(&mut self, node: u32) -> Result<(), Halted>
         ensures work { Worked (reached_at (program self.old) node (world self.old)) result (world self.new) }
         ensures seen { (marks : List Mark) → has_seen self.old marks → result ≢ Err Halted.NoMemory → has_seen self.new (marks ++ began node ∷ []) }
         ensures program { program self.new ≡ program self.old }
-        ensures steps { TakesAtMostOne (world self.old).steps (world self.new).steps };
+        ensures steps { (world self.new).steps ≤ (world self.old).steps };
 
     /// How a node goes on after these answers of its parts.
     fn next(&self, node: u32, done: &[Self::Held]) -> Way

@@ -580,7 +580,7 @@ pub static UNDEFINED: [Row; 16] = [
 
 pub static LEFT: [Row; 9] = [
     Row {
-        what: "more steps than `--steps` says, 1,000,000 without it. Each evaluated expression and each executed statement is a step; a declaration is none",
+        what: "more steps than `--steps` says, 1,000,000 without it. Each evaluated expression and each executed statement is a step, a declaration none; and one more for each 64 cells of a structure that one of them uses as a value, assigns, chooses by `?:`, passes or returns, or of parts that structures or string literals initialise",
         at: "",
         section: "own",
         broken: "`while (1);`",

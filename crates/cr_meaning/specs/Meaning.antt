@@ -1,5 +1,5 @@
 -- The meaning of a program: its nodes in turn, statements (C11 6.8), the whole program (5.1.2), and what a run comes to.
-use Rattle.std.specs.Prelude.{◌≡◌, ℕ, zero, suc, ◌-◌, pos, Bool, true, false, Option, Some, None, Result, Ok, Err, List, [], ◌∷◌, ◌++◌, length, slice_get}
+use Rattle.std.specs.Prelude.{◌≡◌, ℕ, ◌+◌, ◌-◌, ◌/◌, pos, nat_lt, Option, Some, None, Result, Ok, Err, List, [], ◌∷◌, ◌++◌, length, slice_get, if◌then◌else◌}
 use Rattle.cr_ints.specs.declared.kind.IntKind.TheVariants.{Int as IntegerKind}
 use Rattle.cr_memory.specs.declared.value.Scalar.{Scalar}
 use Rattle.cr_memory.specs.declared.value.Guard.TheVariants.{Free}
@@ -17,7 +17,11 @@ use Rattle.cr_meaning.specs.Turns.{Way, Operand, Enter, Resume, Ready, next_of}
 use Rattle.cr_meaning.specs.Nodes.{Act, stops, resulting, entering, value_of, values, last_in, expression, call_end, called, enter_parameters, deeper, initials, initialised, on_object}
 use Rattle.cr_meaning.specs.declared.op.Op.{Op}
 use Rattle.cr_meaning.specs.declared.op.Form.{Form}
+use Rattle.cr_meaning.specs.declared.op.Form.TheVariants as form
+use Rattle.cr_meaning.specs.declared.op.Access.{Access}
+use Rattle.cr_meaning.specs.declared.op.Access.TheVariants as access
 use Rattle.cr_meaning.specs.declared.op.Parameter.{Parameter}
+use Rattle.cr_meaning.specs.declared.op.Line.{Line}
 use Rattle.cr_meaning.specs.declared.op.Callee.{Callee}
 use Rattle.cr_meaning.specs.declared.op.Callee.TheVariants.{Function}
 use Rattle.cr_meaning.specs.declared.op.Work.{Work}
@@ -30,24 +34,56 @@ use Rattle.cr_meaning.specs.declared.run.Run.TheVariants as run
 -- ---- steps
 
 -- expressions and statements take a step when they are reached, and a declaration takes none
-abbrev pub takes_step : Work → Bool
-takes_step work.Declaration = false
-takes_step (work.Declare node) = false
-takes_step (work.Initialise node lines) = false
-takes_step other = true
+abbrev pub own_step : Work → ℕ
+own_step work.Declaration = 0
+own_step (work.Declare node) = 0
+own_step (work.Initialise node lines) = 0
+own_step other = 1
 
--- N1: no step is left
-abbrev pub stepped : ℕ → World → ℕ → Act
-stepped node world zero = stops (Left 1) node
-stepped node world (suc steps) = went next (record world { steps = steps })
+-- the cells of a type, if it is a structure or an array: a scalar is copied in no time
+abbrev pub cells_of_form : Program → Form → ℕ
+cells_of_form p (form.Cells row) = length (p.kinds row)
+cells_of_form p other = 0
 
-abbrev pub reached_by : ℕ → World → Bool → Act
-reached_by node world true = stepped node world world.steps
-reached_by node world false = went next world
+-- the cells that a node reads, where a structure is used as a value
+abbrev pub cells_read : Program → Access → ℕ
+cells_read p (access.Cells row) = length (p.kinds row)
+cells_read p other = 0
 
-abbrev pub reached : ℕ → Option Op → World → Act
-reached node None world = stops untyped node
-reached node (Some op) world = reached_by node world (takes_step op.work)
+abbrev pub cells_passed : Program → List Parameter → ℕ
+cells_passed p [] = 0
+cells_passed p (parameter ∷ rest) = cells_of_form p parameter.form + cells_passed p rest
+
+-- the arguments that a function of the program is called with
+abbrev pub cells_called : Program → Callee → ℕ
+cells_called p (Function parameters body is_main) = cells_passed p parameters
+cells_called p other = 0
+
+-- the parts that are set many cells at once: by a structure, or by a string literal all cells of its array
+abbrev pub cells_begun : Program → List Line → ℕ
+cells_begun p [] = 0
+cells_begun p (line ∷ lines) = cells_of_form p line.form + cells_begun p lines
+
+-- the cells that its work copies: of what is assigned, chosen, passed or returned, or initialises a part
+abbrev pub cells_copied : Program → Work → ℕ
+cells_copied p (work.Assign form) = cells_of_form p form
+cells_copied p (work.Conditional form) = cells_of_form p form
+cells_copied p (work.Return form) = cells_of_form p form
+cells_copied p (work.Call callee) = cells_called p callee
+cells_copied p (work.Initialise node lines) = cells_begun p lines
+cells_copied p other = 0
+
+-- so many steps a node takes when it is reached: its own, and one for each 64 cells that it reads and copies (this project's choice)
+abbrev pub steps_of : Program → Op → ℕ
+steps_of p op = own_step op.work + (cells_read p op.access + cells_copied p op.work) / 64
+
+-- N1: fewer steps are left than are taken
+abbrev pub taking : ℕ → World → ℕ → Act
+taking node world count = if nat_lt world.steps count then stops (Left 1) node else went next (record world { steps = world.steps - count })
+
+abbrev pub reached : Program → ℕ → Option Op → World → Act
+reached p node None world = stops untyped node
+reached p node (Some op) world = taking node world (steps_of p op)
 
 -- ---- work before a part (6.8.2, 6.8.4, 6.8.5)
 
@@ -65,7 +101,7 @@ opened_if p objects (went answer world) = opened p objects world
 opened_if p objects (halts halt) = halts halt
 
 abbrev pub switched : Program → ℕ → List ℕ → World → Act
-switched p body objects world = opened_if p objects (stepped body world world.steps)
+switched p body objects world = opened_if p objects (taking body world 1)
 
 -- main's parameters get 0 and a pointer to an array of one null pointer, which is entered before them and, where it doesn't fit, is
 -- at the node of the second (5.1.2.2.1p2)
@@ -213,7 +249,7 @@ at_op p node done None = act (λ _. stops untyped node) give
 at_op p node done (Some op) = on_way p node op done (next_of op done)
 
 unfoldable pub body : Program → Goal → Meaning
-body p (reach node) = act (reached node (slice_get p.ops node)) (λ _. call (operands node []) give)
+body p (reach node) = act (reached p node (slice_get p.ops node)) (λ _. call (operands node []) give)
 body p (operands node done) = at_op p node done (slice_get p.ops node)
 
 -- ---- what a run comes to

@@ -1,10 +1,10 @@
 -- A node without write, touch and call does the same in a world that agrees.
 use Rattle.std.proofs.Common.{◌≡◌, refl, sym, ◌∙◌, ap, subst, arith}
-use Rattle.std.specs.Prelude.{ℕ, zero, suc, ◌+◌, Bool, true, false, Option, Some, None, Result, Ok, Err, List, [], ◌∷◌, ◌++◌, map, length, slice_get, if◌then◌else◌}
-use Rattle.std.proofs.lemmas.Bool.{false≢true}
+use Rattle.std.specs.Prelude.{ℕ, ◌+◌, Bool, true, false, Option, Some, None, Result, Ok, Err, List, [], ◌∷◌, ◌++◌, map, length, slice_get, if◌then◌else◌, ◌-◌, ◌≤◌, nat_lt}
+use Rattle.std.proofs.lemmas.Bool.{false≢true, ltb-false, le-ltb}
 use Rattle.cr_footprint.specs.Cell.{Cell as Place}
 use Rattle.cr_memory.specs.declared.value.Trap.{Trap}
-use Rattle.cr_memory.specs.declared.value.Trap.TheVariants.{Undefined}
+use Rattle.cr_memory.specs.declared.value.Trap.TheVariants.{Undefined, Left}
 use Rattle.cr_memory.specs.Memory.{Memory}
 use Rattle.cr_meaning.specs.Language.{Acted, went, gave}
 use Rattle.cr_meaning.specs.Events.{Event, clash, operands_clash}
@@ -14,7 +14,7 @@ use Rattle.cr_meaning.specs.World.{Program, World, Binding, Answer, part, next, 
 use Rattle.cr_meaning.specs.Work.{Did}
 use Rattle.cr_meaning.specs.Turns.{Way, Operand, Enter, Resume, Ready, operand, choose, answer_truth, and_next, or_next, conditional_next, next_of, next_by}
 use Rattle.cr_meaning.specs.Nodes.{Act, stops, events_of, values, order_of, all_events, evaluated, resulting, expression}
-use Rattle.cr_meaning.specs.Meaning.{body, Goal, reach, operands, Meaning, with_part, at_op, on_way, join_by, takes_step, stepped, reached_by, reached}
+use Rattle.cr_meaning.specs.Meaning.{body, Goal, reach, operands, Meaning, with_part, at_op, on_way, join_by, steps_of, reached}
 use Rattle.cr_meaning.specs.declared.op.Op.{Op}
 use Rattle.cr_meaning.specs.declared.op.Work.{Work}
 use Rattle.cr_meaning.specs.declared.op.Work.TheVariants as work
@@ -116,49 +116,34 @@ plain_way other parts done k = plain_operand (slice_get parts (length done))
 
 -- ---- steps
 
-pub record Steps (node : ℕ) (o : Option Op) (s t : World) (answer : Answer) : Type 0 where
+pub record Steps (p : Program) (node : ℕ) (o : Option Op) (s t : World) (answer : Answer) : Type 0 where
   pub taken : ℕ
   pub steps : s.steps ≡ taken + t.steps
   pub unchanged : t ≡ record s { steps = t.steps }
-  pub moved : (other : World) (rest : ℕ) → other.steps ≡ taken + rest → reached node o other ≡ went answer (record other { steps = rest })
+  pub moved : (other : World) (rest : ℕ) → other.steps ≡ taken + rest → reached p node o other ≡ went answer (record other { steps = rest })
 
-step_by : (node : ℕ) (op : Op) (s t : World) (answer : Answer) (b : Bool) (steps : ℕ) → takes_step op.work ≡ b → s.steps ≡ steps
-    → (if b then stepped node s steps else went next s) ≡ went answer t → Steps node (Some op) s t answer
-step_by node op s t answer true zero f c e = absurd cc
-step_by node op s t answer true (suc n) f c e =
-    let both = same_went next answer (record s { steps = n }) t e in
-    let left_steps : n ≡ t.steps = ap (λ (w : World). w.steps) both.1 in
+step_by : (p : Program) (node : ℕ) (op : Op) (s t : World) (answer : Answer) (few : Bool) → nat_lt s.steps (steps_of p op) ≡ few
+    → (if few then stops (Left 1) node else went next (record s { steps = s.steps - steps_of p op })) ≡ went answer t → Steps p node (Some op) s t answer
+step_by p node op s t answer true f e = absurd cc
+step_by p node op s t answer false f e =
+    let count : ℕ = steps_of p op in
+    let both = same_went next answer (record s { steps = s.steps - count }) t e in
+    let left_steps : s.steps - count ≡ t.steps = ap (λ (w : World). w.steps) both.1 in
+    let enough : count ≤ s.steps = ltb-false s.steps count f in
     record {
-      taken = 1;
-      steps = omega (arith, c, left_steps);
+      taken = count;
+      steps = omega (arith, enough, left_steps);
       unchanged = sym both.1 ∙ ap (λ x. record s { steps = x }) left_steps;
       moved = λ other rest k.
-          let F : Bool → Type 0 = λ x. reached_by node other x ≡ went answer (record other { steps = rest }) in
-          let k' : other.steps ≡ suc rest = omega (arith, k) in
-          subst F (sym f) (ap (λ x. stepped node other x) k' ∙ ap (λ (a : Answer). went a (record other { steps = rest })) both.0);
-    }
-step_by node op s t answer false n f c e =
-    let both = same_went next answer s t e in
-    let same_steps : s.steps ≡ t.steps = ap (λ (w : World). w.steps) both.1 in
-    record {
-      taken = 0;
-      steps = omega (arith, same_steps);
-      unchanged = sym both.1 ∙ ap (λ x. record s { steps = x }) same_steps;
-      moved = λ other rest k.
-          let F : Bool → Type 0 = λ x. reached_by node other x ≡ went answer (record other { steps = rest }) in
-          let steps_left : other.steps ≡ rest = omega (arith, k) in
-          subst F (sym f) (ap (λ x. went next (record other { steps = x })) steps_left ∙ ap (λ (a : Answer). went a (record other { steps = rest })) both.0);
+          let F : Bool → Type 0 = λ x. (if x then stops (Left 1) node else went next (record other { steps = other.steps - count })) ≡ went answer (record other { steps = rest }) in
+          let left : other.steps - count ≡ rest = omega (arith, k) in
+          subst F (sym (le-ltb other.steps count (omega (arith, k))))
+          (ap (λ x. went next (record other { steps = x })) left ∙ ap (λ (a : Answer). went a (record other { steps = rest })) both.0);
     }
 
-step_of : (node : ℕ) (o : Option Op) (s t : World) (answer : Answer) → reached node o s ≡ went answer t → Steps node o s t answer
-step_of node None s t answer e = absurd cc
-step_of node (Some op) s t answer e =
-    let F : Bool → Type 0 = λ b. (if b then stepped node s s.steps else went next s) ≡ went answer t in
-    step_by node op s t answer (takes_step op.work) s.steps refl refl (by_bool (takes_step op.work) e)
-  where
-    by_bool : (b : Bool) → reached_by node s b ≡ went answer t → (if b then stepped node s s.steps else went next s) ≡ went answer t
-    by_bool true e = e
-    by_bool false e = e
+step_of : (p : Program) (node : ℕ) (o : Option Op) (s t : World) (answer : Answer) → reached p node o s ≡ went answer t → Steps p node o s t answer
+step_of p node None s t answer e = absurd cc
+step_of p node (Some op) s t answer e = step_by p node op s t answer (nat_lt s.steps (steps_of p op)) refl e
 
 -- a memory agrees with itself
 pub agree_self : {cells : Place → Bool} (memory : Memory) → Agree cells memory memory
@@ -250,7 +235,7 @@ module _ (p : Program) (cells : Place → Bool) where
   unfolding body
   frame_goal (reach node) s =
       λ answer u e last t marks fits is quiet reads.
-      let one = step_of node (slice_get p.ops node) s u answer e in
+      let one = step_of p node (slice_get p.ops node) s u answer e in
       let two = fits is (plain_front marks bare quiet) reads in
       record {
         taken = one.taken + two.taken;

@@ -153,11 +153,11 @@ module _ (p : Program) where
       by_free true free = asked_run (picking number op.parts (Nones op.parts)) t r (post.1 (record { op = op; before = []; parts = op.parts; is = e; free = free; all = refl; count = refl }))
       by_free false free = asked_run (operands number []) t r post.0
 
-  reach_holds : (number : ℕ) (s : World) → HoldsHere (λ r. Asking (reach number) s r) (act (reached number (slice_get p.ops number)) (λ _. call (Operands number []) give)) s
+  reach_holds : (number : ℕ) (s : World) → HoldsHere (λ r. Asking (reach number) s r) (act (reached p number (slice_get p.ops number)) (λ _. call (Operands number []) give)) s
   reach_holds number s = by_acted (f s) refl
     where
       f : World → Acted Answer World Halt
-      f = reached number (slice_get p.ops number)
+      f = reached p number (slice_get p.ops number)
 
       q : AnyMeaning
       q = act f (λ _. call (starting number (slice_get p.ops number)) (λ v. give v))
@@ -172,7 +172,7 @@ module _ (p : Program) where
       )
       by_acted (halts x) e = (q, (reaching, by_halt e))
 
-  is_reach : (number : ℕ) → body p (Reach number) ≡ act (reached number (slice_get p.ops number)) (λ _. call (Operands number []) give)
+  is_reach : (number : ℕ) → body p (Reach number) ≡ act (reached p number (slice_get p.ops number)) (λ _. call (Operands number []) give)
   unfolding body
   is_reach number = refl
 

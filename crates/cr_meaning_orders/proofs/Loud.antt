@@ -1,17 +1,18 @@
 -- What a loud operand of a typed program leaves: no object that it entered lives, and cells that its events spare are as they were.
 use Rattle.std.proofs.Common.{◌≡◌, refl, sym, ◌∙◌, ap, subst, arith, inl, inr}
-use Rattle.std.specs.Prelude.{ℕ, zero, suc, ◌<◌, ◌≤◌, Bool, true, false, Option, Some, None, List, [], length, slice_get, slice_index_or, ◌⊎◌}
+use Rattle.std.specs.Prelude.{ℕ, suc, ◌<◌, ◌≤◌, Bool, true, false, Option, Some, None, List, [], length, slice_get, slice_index_or, ◌⊎◌, ◌-◌, nat_lt, if◌then◌else◌}
 use Rattle.std.proofs.lemmas.Bool.{false≢true}
+use Rattle.cr_memory.specs.declared.value.Trap.TheVariants.{Left}
 use Rattle.std.proofs.lemmas.List.{length_push}
 use Rattle.cr_footprint.specs.Cell.{Cell as Place}
 use Rattle.cr_memory.specs.declared.value.Cell.TheVariants.{Unset}
 use Rattle.cr_memory.specs.Memory.{Object, Memory}
 use Rattle.cr_memory.proofs.Continuing.{entered_if_some}
 use Rattle.cr_meaning.specs.Language.{Reply, gave, went, give, act, call}
-use Rattle.cr_meaning.specs.World.{Program, World, Binding, Answer, Halt}
+use Rattle.cr_meaning.specs.World.{Program, World, Binding, Answer, Halt, next}
 use Rattle.cr_meaning.specs.Turns.{Way, Operand, Enter, Resume, Ready, next_of}
-use Rattle.cr_meaning.specs.Nodes.{events_of}
-use Rattle.cr_meaning.specs.Meaning.{Goal, reach, operands, Meaning, body, with_part, on_way, at_op, reached, reached_by, stepped, takes_step}
+use Rattle.cr_meaning.specs.Nodes.{events_of, stops}
+use Rattle.cr_meaning.specs.Meaning.{Goal, reach, operands, Meaning, body, with_part, on_way, at_op, steps_of, reached}
 use Rattle.cr_meaning.specs.declared.op.Op.{Op}
 use Rattle.cr_meaning.specs.declared.op.Work.{Work}
 use Rattle.cr_meaning_soundness.specs.Sorts.{Sort, IsAmong, AreEntered}
@@ -162,23 +163,22 @@ module _ (p : Program) (sorts : ℕ → Option Sort) (owns : ℕ → ℕ → Boo
       (λ own has. let k = info node op own done s i e has in node_opens p sorts op own node op.work op.parts done s k.gives) (λ own has. info node op own done s i e has)
 
   -- a node that is reached stands in the world that it was reached in
-  reached_same : (node : ℕ) (o : Option Op) (s : World) (v : Answer) (t : World) → reached node o s ≡ went v t → (t.memory ≡ s.memory) × (t.bindings ≡ s.bindings)
+  reached_same : (node : ℕ) (o : Option Op) (s : World) (v : Answer) (t : World) → reached p node o s ≡ went v t → (t.memory ≡ s.memory) × (t.bindings ≡ s.bindings)
   reached_same node None s v t e = absurd cc
-  reached_same node (Some op) s v t e = by_step (takes_step op.work) e
+  reached_same node (Some op) s v t e = by_steps (nat_lt s.steps (steps_of p op)) e
     where
-      by_steps : (n : ℕ) → stepped node s n ≡ went v t → (t.memory ≡ s.memory) × (t.bindings ≡ s.bindings)
-      by_steps zero e = absurd cc
-      by_steps (suc n) e = let same : record s { steps = n } ≡ t = cc in (ap (λ (x : World). x.memory) (sym same), ap (λ (x : World). x.bindings) (sym same))
+      left : World
+      left = record s { steps = s.steps - steps_of p op }
 
-      by_step : (b : Bool) → reached_by node s b ≡ went v t → (t.memory ≡ s.memory) × (t.bindings ≡ s.bindings)
-      by_step true e = by_steps s.steps e
-      by_step false e = let same : s ≡ t = cc in (ap (λ (x : World). x.memory) (sym same), ap (λ (x : World). x.bindings) (sym same))
+      by_steps : (few : Bool) → (if few then stops (Left 1) node else went next left) ≡ went v t → (t.memory ≡ s.memory) × (t.bindings ≡ s.bindings)
+      by_steps true e = absurd cc
+      by_steps false e = let same : left ≡ t = cc in (ap (λ (x : World). x.memory) (sym same), ap (λ (x : World). x.bindings) (sym same))
 
   op_of : (node : ℕ) (done : List Answer) (t : World) → Known (operands node done) t → (op : Op) × (slice_get p.ops node ≡ Some op)
   op_of node done t (inl i) = (i.op, i.op_is)
   op_of node done t (inr i) = (i.op, i.op_is)
 
-  reach_follows : (node : ℕ) (s : World) → Known (reach node) s → Follow (Fit (reach node) s) (act (reached node (slice_get p.ops node)) (λ _. call (operands node []) give)) s
+  reach_follows : (node : ℕ) (s : World) → Known (reach node) s → Follow (Fit (reach node) s) (act (reached p node (slice_get p.ops node)) (λ _. call (operands node []) give)) s
   reach_follows node s i v t f j answer u inner keeps after kept limit few new spared events =
       let same = reached_same node (slice_get p.ops node) s v t f in
       let o = op_of node [] t j in

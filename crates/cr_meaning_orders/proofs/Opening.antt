@@ -1,6 +1,6 @@
 -- What is known of the objects of the blocks that a node has entered, and work before its parts.
 use Rattle.std.proofs.Common.{◌≡◌, refl, sym, ◌∙◌, ap, subst, arith, inl, inr}
-use Rattle.std.specs.Prelude.{ℕ, zero, suc, ◌<◌, ◌≤◌, ◌==◌, Bool, true, false, nat_le, Option, Some, None, Result, Ok, Err, List, [], ◌∷◌, ◌++◌, map, length, slice_get, if◌then◌else◌, ◌⊎◌}
+use Rattle.std.specs.Prelude.{ℕ, zero, suc, ◌<◌, ◌≤◌, ◌==◌, Bool, true, false, nat_le, Option, Some, None, Result, Ok, Err, List, [], ◌∷◌, ◌++◌, map, length, slice_get, if◌then◌else◌, ◌⊎◌, ◌-◌, nat_lt}
 use Rattle.std.proofs.lemmas.Bool.{false≢true, eqb-true}
 use Rattle.cr_footprint.specs.Cell.{Cell as Place}
 use Rattle.cr_memory.specs.declared.value.Trap.{Trap}
@@ -12,7 +12,7 @@ use Rattle.cr_meaning.specs.World.{Program, World, Binding, Answer, next, broke,
 use Rattle.cr_meaning.specs.Values.{asked}
 use Rattle.cr_meaning.specs.Turns.{Way, Operand, Enter, Resume, Ready, in_turn, next_by, resume_at, case_for, item_at, after_item, last_of, answer_truth, goes_on, from_item}
 use Rattle.cr_meaning.specs.Nodes.{Act, stops, resulting, entering, value_of, values, order_of, events_of, arguments, enter_parameters, deeper, begun, called}
-use Rattle.cr_meaning.specs.Meaning.{before_by, controlled, control_before, do_before, opened, opened_if, stepped}
+use Rattle.cr_meaning.specs.Meaning.{before_by, controlled, control_before, do_before, opened, opened_if}
 use Rattle.cr_meaning.specs.declared.op.Op.{Op}
 use Rattle.cr_meaning.specs.declared.op.Target.{Target}
 use Rattle.cr_meaning.specs.declared.op.Case.{Case}
@@ -126,9 +126,12 @@ begins_near w b now s n acted h v t e = by_opening (h v t e)
     by_opening (stays memory bindings same) = stays memory bindings same
     by_opening (opens before after g new) = opens before after (record { longer = g.longer; steps = g.steps; lived = g.lived; above = g.above; new = g.new }) new
 
-begins_switched : (p : Program) (w : Work) (b now : Bool) (rest : ℕ) (objects : List ℕ) (s : World) (n : ℕ) → b ≡ false → now ≡ true → objects_of w ≡ objects → Begins w b now s (opened_if p objects (stepped rest s n))
-begins_switched p w b now rest objects s zero before after same = λ v t e. absurd cc
-begins_switched p w b now rest objects s (suc n) before after same = begins_near w b now s n (opened p objects (record s { steps = n })) (begins_opened p w b now (record s { steps = n }) objects before after same)
+begins_switched : (p : Program) (w : Work) (b now : Bool) (rest : ℕ) (objects : List ℕ) (s : World) (none : Bool) → b ≡ false → now ≡ true → objects_of w ≡ objects
+    → Begins w b now s (opened_if p objects (if none then stops (Left 1) rest else went next (record s { steps = s.steps - 1 })))
+begins_switched p w b now rest objects s true before after same = λ v t e. absurd cc
+begins_switched p w b now rest objects s false before after same =
+    let left : World = record s { steps = s.steps - 1 } in
+    begins_near w b now s (s.steps - 1) (opened p objects left) (begins_opened p w b now left objects before after same)
 
 begins_called : (p : Program) (w : Work) (b now : Bool) (node : ℕ) (parameters : List Parameter) (done : List Answer) (s : World) → b ≡ false → now ≡ true → objects_of w ≡ [] → Begins w b now s (called p node w parameters done s)
 begins_called p w b now node parameters done s before after same = unless (operands_clash (order_of w done) 0 (map events_of done)) (resulting node (arguments s.memory parameters (values done)) (begun p node parameters s))
@@ -208,7 +211,7 @@ switch_opens p node kind rest objects cases other labels parts [] s =
     by_operand (λ way. Opens p node (work.Switch kind rest objects cases other labels) parts [] s way) (slice_get parts 0) (λ m f. tt) (λ f. tt)
 switch_opens p node kind rest objects cases other labels parts (control ∷ []) s =
     resumes p node (work.Switch kind rest objects cases other labels) parts (control ∷ []) (control ∷ []) s (case_for kind cases other control)
-    (λ item. begins_switched p (work.Switch kind rest objects cases other labels) false true rest objects s s.steps refl refl refl)
+    (λ item. begins_switched p (work.Switch kind rest objects cases other labels) false true rest objects s (nat_lt s.steps 1) refl refl refl)
 switch_opens p node kind rest objects cases other labels parts (control ∷ entry ∷ done) s =
     items_open p node (work.Switch kind rest objects cases other labels) parts (control ∷ entry ∷ done) (control ∷ []) s _ labels (length done) (last_of entry done)
     (λ item. begins_here (work.Switch kind rest objects cases other labels) true true s next refl)

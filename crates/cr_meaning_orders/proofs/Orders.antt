@@ -852,18 +852,18 @@ module _ (p : Program) (steady : (g : Goal) → AreSteady (body p g))
               (record { s = t; known = know; r = r; forest = forest; run = run; fixed = fixed; owned = tt; near = refl; taken = taken; rest = rest; before = before; now = refl; good = good }, ((λ v u is. is), (λ x is. is)))
 
       abbrev reach_program : ℕ → Meaning
-      reach_program number = act (reached number (slice_get p.ops number)) (λ _. call (Operands number []) give)
+      reach_program number = act (reached p number (slice_get p.ops number)) (λ _. call (Operands number []) give)
 
       is_reach : (number : ℕ) → body p (Reach number) ≡ reach_program number
       unfolding body
       is_reach number = refl
 
       reaching_holds : (number : ℕ) (w : World) (i : Follow (OwnFixed number) (body p (Reach number)) (Known (Reach number)) w)
-          → HoldsHere (λ r'. r' ≡ resting i.r i.rest) (act (reached number (slice_get p.ops number)) (λ _. call (starting number (slice_get p.ops number)) give)) w
+          → HoldsHere (λ r'. r' ≡ resting i.r i.rest) (act (reached p number (slice_get p.ops number)) (λ _. call (starting number (slice_get p.ops number)) give)) w
       reaching_holds number w i = by_act (seen_on (body p) c_sight f (λ _. call (Operands number []) give) i.s i.r i.forest (let F : Meaning → Type 0 = λ x. Sees p x i.s i.r i.forest in subst F (is_reach number) i.run)) ((let G : Meaning → Type 0 = AreSteady in subst G (is_reach number) (steady (Reach number))).0)
         where
           f : World → Acted Answer World Halt
-          f = reached number (slice_get p.ops number)
+          f = reached p number (slice_get p.ops number)
 
           Q : Acted Answer World Halt → Type 0
           Q a = OnActed (λ v. λ t. HoldsHere (λ r'. r' ≡ resting i.r i.rest) (call (starting number (slice_get p.ops number)) give) t) (λ x. ended x ≡ resting i.r i.rest) a

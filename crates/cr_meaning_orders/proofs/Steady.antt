@@ -1,7 +1,8 @@
 -- Work that looks at no steps.
 use Rattle.std.proofs.Common.{◌≡◌, refl, sym, ◌∙◌, ap, arith}
-use Rattle.std.specs.Prelude.{ℕ, zero, suc, ◌+◌, ℤ, pos, Bool, true, false, Option, Some, None, Result, Ok, Err, List, [], ◌∷◌, map, length, slice_get, nat_le, if◌then◌else◌}
+use Rattle.std.specs.Prelude.{ℕ, ◌+◌, ℤ, pos, Bool, true, false, Option, Some, None, Result, Ok, Err, List, [], ◌∷◌, map, length, slice_get, nat_le, if◌then◌else◌, ◌-◌, ◌≤◌, nat_lt}
 use Rattle.std.specs.List.{list_any, zip}
+use Rattle.std.proofs.lemmas.Bool.{ltb-false, le-ltb}
 use Rattle.cr_memory.specs.declared.value.Scalar.{Scalar}
 use Rattle.cr_memory.specs.declared.value.Trap.{Trap}
 use Rattle.cr_memory.specs.declared.value.Trap.TheVariants.{Undefined, Left, NoMemory}
@@ -19,7 +20,7 @@ use Rattle.cr_meaning.specs.Work.{integer, is_nothing, alone, on_one, on_two, by
 use Rattle.cr_meaning.specs.Library.{Called, char, put_out, formatted, printf_of, putchar_of, byte_of, text_at, pieces_of, exit_of}
 use Rattle.cr_meaning.specs.Turns.{Way, Operand, Enter, Resume, Ready, next_of}
 use Rattle.cr_meaning.specs.Nodes.{Act, stops, resulting, entering, value_of, values, events_of, order_of, all_events, evaluated, expression, arguments, enter_parameters, with_argument, deeper, begun, called, after_library, library, call_end, initials, initialised, on_object}
-use Rattle.cr_meaning.specs.Meaning.{body, Goal, reach, operands, on_way, at_op, takes_step, stepped, reached_by, reached, controlled, opened, opened_if, switched, strings_of, main_entered, program_before, for_before, block_before, control_before, do_before, call_before, before_by, if_end, while_end, do_end, for_end, switch_end, return_end, join_by}
+use Rattle.cr_meaning.specs.Meaning.{body, Goal, reach, operands, on_way, at_op, steps_of, taking, reached, controlled, opened, opened_if, switched, strings_of, main_entered, program_before, for_before, block_before, control_before, do_before, call_before, before_by, if_end, while_end, do_end, for_end, switch_end, return_end, join_by}
 use Rattle.cr_meaning.specs.declared.op.Op.{Op}
 use Rattle.cr_meaning.specs.declared.op.Access.{Access}
 use Rattle.cr_meaning.specs.declared.op.Form.{Form}
@@ -332,29 +333,35 @@ steady_blind f blind = record {
   );
 }
 
--- work that takes a step first
-taking_by : ℕ → (World → Act) → World → ℕ → Act
-taking_by node f s zero = stops (Left 1) node
-taking_by node f s (suc n) = f (record s { steps = n })
+-- work that takes steps first
+taking_by : ℕ → (World → Act) → World → ℕ → Bool → Act
+taking_by node f s count true = stops (Left 1) node
+taking_by node f s count false = f (record s { steps = s.steps - count })
 
-taking_goes : (node : ℕ) (f : World → Act) → IsSteady f → (s t : World) (answer : Answer) (n : ℕ) → s.steps ≡ n → taking_by node f s n ≡ went answer t → GoesSteadily (λ world. taking_by node f world world.steps) s t answer
+taking_goes : (node count : ℕ) (f : World → Act) → IsSteady f → (s t : World) (answer : Answer) (few : Bool) → nat_lt s.steps count ≡ few → taking_by node f s count few ≡ went answer t
+    → GoesSteadily (λ world. taking_by node f world count (nat_lt world.steps count)) s t answer
 unfolding taking_by
-taking_goes node f steady s t answer zero k e = absurd cc
-taking_goes node f steady s t answer (suc n) k e =
-    let one = steady.goes (record s { steps = n }) t answer e in
-    let a : n ≡ one.taken + t.steps = one.steps in
+taking_goes node count f steady s t answer true k e = absurd cc
+taking_goes node count f steady s t answer false k e =
+    let one = steady.goes (record s { steps = s.steps - count }) t answer e in
+    let a : s.steps - count ≡ one.taken + t.steps = one.steps in
+    let enough : count ≤ s.steps = ltb-false s.steps count k in
     record {
-      taken = suc one.taken;
-      steps = omega (arith, k, a);
+      taken = count + one.taken;
+      steps = omega (arith, enough, a);
       moved = λ w rest near now.
-          let k' : w.steps ≡ suc (one.taken + rest) = omega (arith, now) in
-          ap (λ x. taking_by node f w x) k' ∙ one.moved (record w { steps = one.taken + rest }) rest (ap (λ (x : World). record x { steps = one.taken + rest }) near) refl;
+          let k' : nat_lt w.steps count ≡ false = le-ltb w.steps count (omega (arith, now)) in
+          let left : w.steps - count ≡ one.taken + rest = omega (arith, now) in
+          ap (λ x. taking_by node f w count x) k'
+          ∙ (ap (λ x. f (record w { steps = x })) left
+          ∙ one.moved (record w { steps = one.taken + rest }) rest (ap (λ (x : World). record x { steps = one.taken + rest }) near) refl);
     }
 
-taking_exits : (node : ℕ) (f : World → Act) → ((s : World) (status : ℕ) (t : World) → f s ≡ halts (exited status t) → ⊥) → (s t : World) (status n : ℕ) → taking_by node f s n ≡ halts (exited status t) → ⊥
+taking_exits : (node count : ℕ) (f : World → Act) → ((s : World) (status : ℕ) (t : World) → f s ≡ halts (exited status t) → ⊥) → (s t : World) (status : ℕ) (few : Bool)
+    → taking_by node f s count few ≡ halts (exited status t) → ⊥
 unfolding taking_by
-taking_exits node f never s t status zero e = absurd cc
-taking_exits node f never s t status (suc n) e = never (record s { steps = n }) status t e
+taking_exits node count f never s t status true e = absurd cc
+taking_exits node count f never s t status false e = never (record s { steps = s.steps - count }) status t e
 
 opened_never : (p : Program) (objects : List ℕ) (s : World) (status : ℕ) (t : World) → opened p objects s ≡ halts (exited status t) → ⊥
 opened_never p objects s status t e = by_entered (enter_all (automatic p) (marked s) objects) e
@@ -363,43 +370,46 @@ opened_never p objects s status t e = by_entered (enter_all (automatic p) (marke
     by_entered (Ok world) e = absurd cc
     by_entered (Err case) e = absurd cc
 
-switched_is : (p : Program) (rest : ℕ) (objects : List ℕ) (world : World) (n : ℕ) → opened_if p objects (stepped rest world n) ≡ taking_by rest (opened p objects) world n
+switched_is : (p : Program) (rest : ℕ) (objects : List ℕ) (world : World) (few : Bool)
+    → opened_if p objects (if few then stops (Left 1) rest else went next (record world { steps = world.steps - 1 })) ≡ taking_by rest (opened p objects) world 1 few
 unfolding taking_by
-switched_is p rest objects world zero = refl
-switched_is p rest objects world (suc n) = refl
+switched_is p rest objects world true = refl
+switched_is p rest objects world false = refl
 
 steady_switched : (p : Program) (rest : ℕ) (objects : List ℕ) → IsSteady (switched p rest objects)
 steady_switched p rest objects =
     let one = steady_blind (opened p objects) (blind_opened p objects) in
     record {
       goes = λ s t answer e.
-          let i = taking_goes rest (opened p objects) one s t answer s.steps refl (sym (switched_is p rest objects s s.steps) ∙ e) in
-          record { taken = i.taken; steps = i.steps; moved = λ w left near now. switched_is p rest objects w w.steps ∙ i.moved w left near now };
-      exits = λ s t status e. absurd (taking_exits rest (opened p objects) (opened_never p objects) s t status s.steps (sym (switched_is p rest objects s s.steps) ∙ e));
+          let i = taking_goes rest 1 (opened p objects) one s t answer (nat_lt s.steps 1) refl (sym (switched_is p rest objects s (nat_lt s.steps 1)) ∙ e) in
+          record { taken = i.taken; steps = i.steps; moved = λ w left near now. switched_is p rest objects w (nat_lt w.steps 1) ∙ i.moved w left near now };
+      exits = λ s t status e.
+          absurd (taking_exits rest 1 (opened p objects) (opened_never p objects) s t status (nat_lt s.steps 1) (sym (switched_is p rest objects s (nat_lt s.steps 1)) ∙ e));
     }
 
-stepped_is : (node : ℕ) (world : World) (n : ℕ) → stepped node world n ≡ taking_by node (λ w. went next w) world n
+taking_is : (node count : ℕ) (world : World) (few : Bool)
+    → (if few then stops (Left 1) node else went next (record world { steps = world.steps - count })) ≡ taking_by node (λ w. went next w) world count few
 unfolding taking_by
-stepped_is node world zero = refl
-stepped_is node world (suc n) = refl
+taking_is node count world true = refl
+taking_is node count world false = refl
 
-steady_reached : (node : ℕ) (o : Option Op) → IsSteady (reached node o)
-steady_reached node None = steady_blind (λ world. stops NoMemory node) (λ s n. refl)
-steady_reached node (Some op) = by_step (takes_step op.work)
-  where
-    next_never : (s : World) (status : ℕ) (t : World) → (let x : Act = went next s in x) ≡ halts (exited status t) → ⊥
-    next_never s status t e = absurd cc
+next_never : (s : World) (status : ℕ) (t : World) → (let x : Act = went next s in x) ≡ halts (exited status t) → ⊥
+next_never s status t e = absurd cc
 
-    by_step : (b : Bool) → IsSteady (λ world. reached_by node world b)
-    by_step false = steady_blind (λ world. went next world) (λ s n. refl)
-    by_step true =
-        let one = steady_blind (λ world. went next world) (λ s n. refl) in
-        record {
-          goes = λ s t answer e.
-              let i = taking_goes node (λ world. went next world) one s t answer s.steps refl (sym (stepped_is node s s.steps) ∙ e) in
-              record { taken = i.taken; steps = i.steps; moved = λ w left near now. stepped_is node w w.steps ∙ i.moved w left near now };
-          exits = λ s t status e. absurd (taking_exits node (λ world. went next world) next_never s t status s.steps (sym (stepped_is node s s.steps) ∙ e));
-        }
+steady_taking : (node count : ℕ) → IsSteady (λ world. taking node world count)
+steady_taking node count =
+    let one = steady_blind (λ world. went next world) (λ s n. refl) in
+    record {
+      goes = λ s t answer e.
+          let i = taking_goes node count (λ world. went next world) one s t answer (nat_lt s.steps count) refl (sym (taking_is node count s (nat_lt s.steps count)) ∙ e) in
+          record { taken = i.taken; steps = i.steps; moved = λ w left near now. taking_is node count w (nat_lt w.steps count) ∙ i.moved w left near now };
+      exits = λ s t status e.
+          absurd (taking_exits node count (λ world. went next world) next_never s t status (nat_lt s.steps count) (sym (taking_is node count s (nat_lt s.steps count)) ∙ e));
+    }
+
+steady_reached : (p : Program) (node : ℕ) (o : Option Op) → IsSteady (reached p node o)
+steady_reached p node None = steady_blind (λ world. stops NoMemory node) (λ s n. refl)
+steady_reached p node (Some op) = steady_taking node (steps_of p op)
 
 steady_before : (p : Program) (node : ℕ) (w : Work) (done : List Answer) → IsSteady (before_by p node w done)
 steady_before p node (work.Call callee) done = steady_blind _ (blind_call p node (work.Call callee) callee done)
@@ -426,5 +436,5 @@ steady_op p node done (Some op) = steady_way p node op done (next_of op done)
 
 pub steady : (p : Program) (g : Goal) → AreSteady (body p g)
 unfolding body
-steady p (reach node) = (steady_reached node (slice_get p.ops node), λ _ answer. tt)
+steady p (reach node) = (steady_reached p node (slice_get p.ops node), λ _ answer. tt)
 steady p (operands node done) = steady_op p node done (slice_get p.ops node)

@@ -72,7 +72,7 @@ all_some (Some answer ∷ slots) = elim (all_some slots) as (λ _. Option (List 
 
 -- Asks p g q: q is a way to go on where g is asked. All work of nodes, and all their cases, are those of the meaning.
 pub data Asks (p : Program) : Asked → AnyMeaning → Type 0 where
-  reaching : {node : ℕ} → Asks p (reach node) (act (reached node (slice_get p.ops node)) (λ _. call (starting node (slice_get p.ops node)) give))
+  reaching : {node : ℕ} → Asks p (reach node) (act (reached p node (slice_get p.ops node)) (λ _. call (starting node (slice_get p.ops node)) give))
   going_on : {node : ℕ} {done : List Answer} → Asks p (operands node done) (lifted (body p (Operands node done)))
   -- any operand that has not been evaluated
   picks : {node : ℕ} (place part : ℕ) {parts : List ℕ} {slots : List (Option Answer)} → slice_get slots place ≡ Some None → slice_get parts place ≡ Some part

@@ -1,5 +1,5 @@
 -- What nodes do on the world, beside the own work of expressions: the pointers in it stay declared places.
-use Rattle.std.proofs.Common.{◌≡◌, ℕ, zero, suc, ◌+◌, pos, nat_le, Bool, true, false, is_some, Option, Some, None, Result, Ok, Err, IfOk, List, [], ◌∷◌, ◌++◌, length, map, replicate, if◌then◌else◌, refl, sym, ap, ◌∙◌, subst, inr}
+use Rattle.std.proofs.Common.{◌≡◌, ℕ, zero, suc, ◌+◌, pos, nat_le, Bool, true, false, is_some, Option, Some, None, Result, Ok, Err, IfOk, List, [], ◌∷◌, ◌++◌, length, map, replicate, if◌then◌else◌, refl, sym, ap, ◌∙◌, subst, inr, ◌-◌, nat_lt}
 use Rattle.std.specs.List.{list_any, zip}
 use Rattle.cr_ints.specs.declared.kind.IntKind.TheVariants.{Int as IntegerKind}
 use Rattle.cr_library.specs.declared.piece.Piece.{Piece}
@@ -20,7 +20,7 @@ use Rattle.cr_meaning.specs.Values.{kinds_in, converted, cells_of_value, as_poin
 use Rattle.cr_meaning.specs.Work.{is_nothing, integer, work_of}
 use Rattle.cr_meaning.specs.Library.{Called, put_out, formatted, printed, text_at, pieces_of, printf_of, putchar_of, byte_of, exit_of}
 use Rattle.cr_meaning.specs.Nodes.{Act, stops, resulting, entering, value_of, values, last_in, order_of, all_events, events_of, evaluated, expression, converted_all, arguments, deeper, begun, called, enter_parameters, result_of, after_library, library, call_end, element_of, elements_of, initial, set_parts, unused_in, initials, with_parts, zeroed, initialised, on_object}
-use Rattle.cr_meaning.specs.Meaning.{stepped, opened, opened_if, strings_of, main_entered, program_before, for_before, switch_before, block_before, control_before, do_before, call_before, before_by, after_loop, after_switch, if_end, while_end, do_end, for_end, switch_end, return_end, program_end, join_by}
+use Rattle.cr_meaning.specs.Meaning.{opened, opened_if, strings_of, main_entered, program_before, for_before, switch_before, block_before, control_before, do_before, call_before, before_by, after_loop, after_switch, if_end, while_end, do_end, for_end, switch_end, return_end, program_end, join_by}
 use Rattle.cr_meaning.specs.declared.op.Op.{Op}
 use Rattle.cr_meaning.specs.declared.op.Form.{Form}
 use Rattle.cr_meaning.specs.declared.op.Line.{Line}
@@ -72,10 +72,11 @@ opens p objects s sound =
     went_entering (Onward p (marked s)) (Onto p s) (enter_all (automatic p) (marked s) objects) (all_enter p (automatic p) (marked s) objects (automatic_made p) (marked_sound p s sound))
     (λ t o. as_onward p s (marked s) t refl o)
 
-switches : (p : Program) (rest : ℕ) (objects : List ℕ) (s : World) (n : ℕ) → IsSound p s → Went (Onto p s) (opened_if p objects (stepped rest s n))
-switches p rest objects s zero sound = tt
-switches p rest objects s (suc n) sound =
-    let t = record s { steps = n } in
+switches : (p : Program) (rest : ℕ) (objects : List ℕ) (s : World) (none : Bool) → IsSound p s
+    → Went (Onto p s) (opened_if p objects (if none then stops (Left 1) rest else went next (record s { steps = s.steps - 1 })))
+switches p rest objects s true sound = tt
+switches p rest objects s false sound =
+    let t = record s { steps = s.steps - 1 } in
     opens_from t (opens p objects t (record { good = sound.good; bound = sound.bound })) refl
   where
     opens_from : (t : World) → Went (Onto p t) (opened p objects t) → t.memory ≡ s.memory → Went (Onto p s) (opened p objects t)
@@ -164,7 +165,7 @@ for_begins p node objects (one ∷ control ∷ last ∷ more) s sound = stays p 
 
 switch_begins : (p : Program) (rest : ℕ) (objects : List ℕ) (done : List Answer) (s : World) → IsSound p s → Went (Onto p s) (switch_before p rest objects done s)
 switch_begins p rest objects [] s sound = stays p s sound
-switch_begins p rest objects (control ∷ []) s sound = switches p rest objects s s.steps sound
+switch_begins p rest objects (control ∷ []) s sound = switches p rest objects s (nat_lt s.steps 1) sound
 switch_begins p rest objects (control ∷ one ∷ more) s sound = stays p s sound
 
 block_begins : (p : Program) (objects : List ℕ) (done : List Answer) (s : World) → IsSound p s → Went (Onto p s) (block_before p objects done s)

@@ -1,14 +1,15 @@
 -- Every goal that is asked in a run finds its pointers to be declared places.
-use Rattle.std.proofs.Common.{◌≡◌, ℕ, Bool, true, false, Option, Some, None, List, [], ◌∷◌, ◌++◌, ◌≤◌, zero, suc, inl, inr, get_or, slice_get, refl, sym, ◌∙◌, subst, arith}
+use Rattle.std.proofs.Common.{◌≡◌, ℕ, Bool, true, false, Option, Some, None, List, [], ◌∷◌, ◌++◌, ◌≤◌, inl, inr, get_or, slice_get, refl, sym, ◌∙◌, subst, arith, ◌-◌, nat_lt, if◌then◌else◌}
 use Rattle.std.proofs.lemmas.List.{get_or_past}
 use Rattle.cr_memory.specs.Memory.{Object, Memory}
 use Rattle.cr_memory.specs.declared.value.Pointer.{Pointer}
 use Rattle.cr_memory.specs.declared.value.Scalar.{Scalar}
 use Rattle.cr_meaning.specs.Language.{Acted, went, halts, Reply, gave, ended, give, call}
-use Rattle.cr_meaning.specs.World.{Program, World, Answer, Halt}
+use Rattle.cr_memory.specs.declared.value.Trap.TheVariants.{Left}
+use Rattle.cr_meaning.specs.World.{Program, World, Answer, Halt, next}
 use Rattle.cr_meaning.specs.Turns.{Way, Operand, Enter, Resume, Ready, next_of}
-use Rattle.cr_meaning.specs.Nodes.{Act, value_of, values}
-use Rattle.cr_meaning.specs.Meaning.{body, Goal, reach, operands, Meaning, with_part, on_way, at_op, takes_step, stepped, reached_by, reached, before_by, join_by, root_of, start_of}
+use Rattle.cr_meaning.specs.Nodes.{Act, value_of, values, stops}
+use Rattle.cr_meaning.specs.Meaning.{body, Goal, reach, operands, Meaning, with_part, on_way, at_op, steps_of, reached, before_by, join_by, root_of, start_of}
 use Rattle.cr_meaning.specs.declared.op.Op.{Op}
 use Rattle.cr_meaning.specs.declared.run.Limits.{Limits}
 use Rattle.cr_meaning_soundness.proofs.Lasting.{OnActed, Holds, held}
@@ -108,20 +109,19 @@ op_holds p node done s None plain e i = tt
 op_holds p node done s (Some op) plain e i = way_holds p node op done s (next_of op done) plain e refl i (good_way p s.memory op.work op.parts done i.good)
 
 reach_holds : (p : Program) (node : ℕ) (s : World) (o : Option Op) → IsSound p s
-    → OnActed (λ v. λ t. HoldsBy p (Replied p node s) (call (operands node []) give) t) (λ h. Unit {0}) (reached node o s)
+    → OnActed (λ v. λ t. HoldsBy p (Replied p node s) (call (operands node []) give) t) (λ h. Unit {0}) (reached p node o s)
 reach_holds p node s None sound = tt
-reach_holds p node s (Some op) sound = by_step (takes_step op.work)
+reach_holds p node s (Some op) sound = by_steps (nat_lt s.steps (steps_of p op))
   where
     on : (t : World) → Onward p s t → HoldsBy p (Replied p node s) (call (operands node []) give) t
     on t o = goes_on p node [] s t o (record { sound = o.sound; good = tt; before = λ op e. before_none p op.work op.parts })
 
-    by_steps : (n : ℕ) → OnActed (λ v. λ t. HoldsBy p (Replied p node s) (call (operands node []) give) t) (λ h. Unit {0}) (stepped node s n)
-    by_steps zero = tt
-    by_steps (suc n) = on (record s { steps = n }) (record { lasts = lasts_refl s.memory; sound = record { good = sound.good; bound = sound.bound } })
+    left : World
+    left = record s { steps = s.steps - steps_of p op }
 
-    by_step : (b : Bool) → OnActed (λ v. λ t. HoldsBy p (Replied p node s) (call (operands node []) give) t) (λ h. Unit {0}) (reached_by node s b)
-    by_step true = by_steps s.steps
-    by_step false = on s (stays p s sound)
+    by_steps : (few : Bool) → OnActed (λ v. λ t. HoldsBy p (Replied p node s) (call (operands node []) give) t) (λ h. Unit {0}) (if few then stops (Left 1) node else went next left)
+    by_steps true = tt
+    by_steps false = on left (record { lasts = lasts_refl s.memory; sound = record { good = sound.good; bound = sound.bound } })
 
 pub goal_holds : (p : Program) → HasPlainLiterals p → (g : Goal) (s : World) (i : Pre p g s) → HoldsBy p (Post p g s i) (body p g) s
 unfolding body

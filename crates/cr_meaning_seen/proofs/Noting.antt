@@ -165,7 +165,7 @@ module _ (p : Program) where
 
   noted_goal : (g : Goal) (s : World × List Mark) → Holds Post (Post g s) (noted_body p g) s
   unfolding noted_body body
-  noted_goal (reach number) s = noted_reach number (reached number (slice_get p.ops number)) s
+  noted_goal (reach number) s = noted_reach number (reached p number (slice_get p.ops number)) s
   noted_goal (operands number done) s = noted_on_op number done (slice_get p.ops number) s
 
   -- a run that notes is a seen run with these marks

@@ -68,7 +68,7 @@ noted_op p number done None = act (noting (ended_by number) as_before (λ _. sto
 noted_op p number done (Some op) = noted_way p number op done (next_of op done)
 
 unfoldable pub noted_body : Program → Goal → Noting
-noted_body p (reach number) = act (noting (begun_by number) (begun number) (reached number (slice_get p.ops number))) (λ _. call (operands number []) give)
+noted_body p (reach number) = act (noting (begun_by number) (begun number) (reached p number (slice_get p.ops number))) (λ _. call (operands number []) give)
 noted_body p (operands number done) = noted_op p number done (slice_get p.ops number)
 
 -- ---- what a run with notes has noted

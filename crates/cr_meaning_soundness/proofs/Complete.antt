@@ -1,6 +1,6 @@
 -- Every node of a complete program comes to no other end than a status or a case.
 use Rattle.std.proofs.Common.{◌≡◌, refl, sym, ◌∙◌, subst, arith, inl, inr}
-use Rattle.std.specs.Prelude.{ℕ, zero, suc, ◌+◌, ◌<◌, ◌≤◌, ◌==◌, ◌&&◌, ◌||◌, Bool, true, false, Option, Some, None, List, [], ◌∷◌, map, length, drop, slice_get, if◌then◌else◌, ◌⊎◌}
+use Rattle.std.specs.Prelude.{ℕ, zero, suc, ◌+◌, ◌<◌, ◌≤◌, ◌==◌, ◌&&◌, ◌||◌, Bool, true, false, Option, Some, None, List, [], ◌∷◌, map, length, drop, slice_get, if◌then◌else◌, ◌⊎◌, nat_lt}
 use Rattle.std.proofs.lemmas.Bool.{eqb-true}
 use Rattle.cr_ints.specs.declared.kind.IntKind.{IntKind}
 use Rattle.cr_memory.specs.declared.value.Scalar.{Scalar}
@@ -344,7 +344,7 @@ switch_safe p sorts sees node op kind rest objects cases other targets (control 
         let is = number_value s.memory a.sort (value_of control) (h.demands a.node a.sort a.is_part a.has) (value_fits p s.memory a.sort control a.fits) in
         by_resume (SafeBy p node op (work.Switch kind rest objects cases other targets) (control ∷ []) s) (control ∷ []) (case_for kind cases other control)
         (λ e. Ending.safely_resulting node (integer (value_of control)) (λ _. went next s) (Cases.integer_cased (value_of control) is) (λ n. tt))
-        (λ item. Ending.stepped_opened_safe p rest objects s s.steps)
+        (λ item. Ending.stepped_opened_safe p rest objects s (nat_lt s.steps 1))
     controls (inr filler) = absurd filler
 switch_safe p sorts sees node op kind rest objects cases other targets (control ∷ entry ∷ done) s h =
     by_item (SafeBy p node op (work.Switch kind rest objects cases other targets) (control ∷ entry ∷ done) s) (control ∷ []) (drop 1 op.parts) targets (length done) (last_of entry done)

@@ -1,6 +1,6 @@
 -- The work of nodes that have the operands which they take: each end of it is a status or a case.
 use Rattle.std.proofs.Common.{◌≡◌}
-use Rattle.std.specs.Prelude.{ℕ, zero, suc, nat_le, pos, Bool, true, false, Option, Some, None, Result, Ok, Err, List, [], ◌∷◌, map, length, if◌then◌else◌}
+use Rattle.std.specs.Prelude.{ℕ, nat_le, pos, Bool, true, false, Option, Some, None, Result, Ok, Err, List, [], ◌∷◌, map, length, if◌then◌else◌, ◌-◌}
 use Rattle.std.specs.List.{list_any}
 use Rattle.cr_ints.specs.declared.kind.IntKind.TheVariants.{Int as IntegerKind}
 use Rattle.cr_memory.specs.declared.value.Pointer.TheVariants.{At}
@@ -16,7 +16,7 @@ use Rattle.cr_meaning.specs.Values.{asked, scalar_element}
 use Rattle.cr_meaning.specs.Work.{Did, work_of, is_nothing}
 use Rattle.cr_meaning.specs.Nodes.{Act, stops, resulting, entering as entering_act, value_of, values, events_of, order_of, all_events, evaluated, expression, after_library, converted_all, arguments, with_argument, enter_parameters, deeper, begun, called, initial, set_parts, unused_in, initials, initialised, on_object}
 use Rattle.cr_meaning.specs.Library.{Called}
-use Rattle.cr_meaning.specs.Meaning.{stepped, controlled, opened, opened_if, strings_of, main_entered}
+use Rattle.cr_meaning.specs.Meaning.{controlled, opened, opened_if, strings_of, main_entered}
 use Rattle.cr_meaning.specs.declared.op.Op.{Op}
 use Rattle.cr_meaning.specs.declared.op.Line.{Line}
 use Rattle.cr_meaning.specs.declared.op.Parameter.{Parameter}
@@ -99,9 +99,10 @@ main_entered_cased p strings (count ∷ vector ∷ more ∷ rest) world = tt
 pub opened_safe : (p : Program) (objects : List ℕ) (s : World) → Safely IsEnd (opened p objects s)
 opened_safe p objects s = safely_entering (enter_all (automatic p) (marked s) objects) (enter_all_cased (automatic p) (marked s) objects)
 
-pub stepped_opened_safe : (p : Program) (rest : ℕ) (objects : List ℕ) (s : World) (n : ℕ) → Safely IsEnd (opened_if p objects (stepped rest s n))
-stepped_opened_safe p rest objects s zero = tt
-stepped_opened_safe p rest objects s (suc n) = opened_safe p objects (record s { steps = n })
+pub stepped_opened_safe : (p : Program) (rest : ℕ) (objects : List ℕ) (s : World) (none : Bool)
+    → Safely IsEnd (opened_if p objects (if none then stops (Left 1) rest else went next (record s { steps = s.steps - 1 })))
+stepped_opened_safe p rest objects s true = tt
+stepped_opened_safe p rest objects s false = opened_safe p objects (record s { steps = s.steps - 1 })
 
 pub begun_safe : (p : Program) (node : ℕ) (parameters : List Parameter) (s : World) (given : List Value) → Safely IsEnd (begun p node parameters s given)
 begun_safe p node parameters s given =

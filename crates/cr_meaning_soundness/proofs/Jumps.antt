@@ -1,17 +1,18 @@
 -- Blocks, `switch`, labels and jumps (C11 6.8.1, 6.8.2, 6.8.4.2, 6.8.6).
 use Rattle.std.proofs.Common.{◌≡◌, refl, sym, subst, arith, inl, inr}
-use Rattle.std.specs.Prelude.{ℕ, zero, suc, ◌+◌, ◌≤◌, ◌==◌, Bool, true, false, Option, Some, None, Result, Ok, Err, IfOk, List, [], ◌∷◌, ◌++◌, length, drop, slice_get, if◌then◌else◌, ◌⊎◌}
+use Rattle.std.specs.Prelude.{ℕ, zero, suc, ◌+◌, ◌≤◌, ◌==◌, Bool, true, false, Option, Some, None, Result, Ok, Err, IfOk, List, [], ◌∷◌, ◌++◌, length, drop, slice_get, if◌then◌else◌, ◌⊎◌, ◌-◌, nat_lt}
 use Rattle.std.proofs.lemmas.Bool.{eq-eqb}
 use Rattle.cr_ints.specs.declared.kind.IntKind.{IntKind}
 use Rattle.cr_memory.specs.declared.value.Trap.{Trap}
+use Rattle.cr_memory.specs.declared.value.Trap.TheVariants.{Left}
 use Rattle.cr_memory.specs.Memory.{Memory}
 use Rattle.cr_meaning.specs.Language.{went}
 use Rattle.cr_meaning.specs.World.{Program, World, Answer, part, next, broke, jumped, returned}
 use Rattle.cr_meaning.specs.Values.{converted}
 use Rattle.cr_meaning.specs.Work.{is_void, integer}
 use Rattle.cr_meaning.specs.Turns.{Way, Operand, Resume, Ready, in_turn, last_of, item_at, from_item, resume_at, after_item, block_next, case_for, switch_next}
-use Rattle.cr_meaning.specs.Nodes.{resulting, value_of}
-use Rattle.cr_meaning.specs.Meaning.{stepped, opened, opened_if, after_switch}
+use Rattle.cr_meaning.specs.Nodes.{resulting, value_of, stops}
+use Rattle.cr_meaning.specs.Meaning.{opened, opened_if, after_switch}
 use Rattle.cr_meaning.specs.declared.op.Op.{Op}
 use Rattle.cr_meaning.specs.declared.op.Case.{Case}
 use Rattle.cr_meaning.specs.declared.op.Target.{Target}
@@ -112,10 +113,11 @@ no_control : (parts : List ℕ) → 1 ≤ length parts → slice_get parts 0 ≡
 no_control [] some e = let never : ⊥ = omega arith in never
 no_control (first ∷ parts) some e = cc e
 
-stepped_opens : (p : Program) (w : Work) (rest : ℕ) (base s : World) (n : ℕ) → Beside p base s → Went (λ answer t. Begun p w true base s t) (opened_if p (entered_by w) (stepped rest s n))
-stepped_opens p w rest base s zero b = tt
-stepped_opens p w rest base s (suc n) b =
-    let after : World = record s { steps = n } in
+stepped_opens : (p : Program) (w : Work) (rest : ℕ) (base s : World) (none : Bool) → Beside p base s
+    → Went (λ answer t. Begun p w true base s t) (opened_if p (entered_by w) (if none then stops (Left 1) rest else went next (record s { steps = s.steps - 1 })))
+stepped_opens p w rest base s true b = tt
+stepped_opens p w rest base s false b =
+    let after : World = record s { steps = s.steps - 1 } in
     went_onward (λ answer t. Begun p w true base after t) (λ answer t. Begun p w true base s t) (opened p (entered_by w) after)
     (opening p w base after (record { well = record { sound = b.well.sound; entered = b.well.entered }; continues = b.continues; bindings = b.bindings }))
     (λ answer t begun. record { at = begun.at; continues = begun.continues })
@@ -133,7 +135,7 @@ switch_goes p sorts node op kind body objects cases other targets exits (control
     let w = work.Switch kind body objects cases other targets in
     by_resume (Goes p sorts node op w (statement exits) (control ∷ []) base s) (control ∷ []) (case_for kind cases other control)
     (λ e. went_resulting (λ answer t. Keeps p base t (statement exits) answer) node (integer (value_of control)) (λ _. went next s) (λ a. kept_here p base s (statement exits) next h.at tt))
-    (λ item. ((h.given.0, all_filled p sorts w op.parts s.memory 1 (suc item) (λ i below. filled i below)), stepped_opens p w body base s s.steps h.at))
+    (λ item. ((h.given.0, all_filled p sorts w op.parts s.memory 1 (suc item) (λ i below. filled i below)), stepped_opens p w body base s (nat_lt s.steps 1) h.at))
   where
     filled : (i : ℕ) → 1 ≤ i → IsFiller (work.Switch kind body objects cases other targets) i next
     filled zero below = let never : ⊥ = omega arith in absurd never

@@ -1,13 +1,13 @@
 -- Every node of a typed program keeps what the law says, and so does the whole program.
 use Rattle.std.proofs.Common.{◌≡◌, refl, sym, subst, inl, inr}
-use Rattle.std.specs.Prelude.{ℕ, zero, suc, ◌≤◌, Bool, true, false, Option, Some, None, List, [], ◌∷◌, length, slice_get, ◌⊎◌}
+use Rattle.std.specs.Prelude.{ℕ, ◌≤◌, Bool, true, false, Option, Some, None, List, [], ◌∷◌, length, slice_get, ◌⊎◌, ◌-◌, nat_lt, if◌then◌else◌}
 use Rattle.cr_memory.specs.declared.value.Trap.TheVariants.{Left}
 use Rattle.cr_memory.proofs.Continuing.{continues-refl}
 use Rattle.cr_meaning.specs.Language.{went, halts, Reply, gave, give, call, Runs}
 use Rattle.cr_meaning.specs.World.{Program, World, Answer, next, broke, continued, jumped, Halt, stopped, untyped}
 use Rattle.cr_meaning.specs.Turns.{Way, Operand, Enter, Resume, Ready, in_turn, and_next, or_next, conditional_next, next_by, next_of, answer_truth}
-use Rattle.cr_meaning.specs.Nodes.{Act, expression}
-use Rattle.cr_meaning.specs.Meaning.{body, Goal, reach, operands, at_op, takes_step, stepped, reached_by, reached, before_by, join_by, root_of, start_of}
+use Rattle.cr_meaning.specs.Nodes.{Act, expression, stops}
+use Rattle.cr_meaning.specs.Meaning.{body, Goal, reach, operands, at_op, steps_of, reached, before_by, join_by, root_of, start_of}
 use Rattle.cr_meaning.specs.declared.op.Op.{Op}
 use Rattle.cr_meaning.specs.declared.op.Callee.TheVariants.{Function}
 use Rattle.cr_meaning.specs.declared.op.Form.{Form}
@@ -178,23 +178,22 @@ not_open w parts = refl
 
 reach_holds : (E : Halt → Type 0) (p : Program) (sorts : ℕ → Option Sort) (sees : ℕ → ℕ → Bool) (c : Course E p sorts sees) (node : ℕ) (s : World) (i : Reached p sorts sees node s) (o : Option Op)
     → slice_get p.ops node ≡ o
-    → OnActed (λ v. λ t. HoldsBy E p sorts sees (Replied E p s i.own) (call (operands node []) give) t) (λ h. E h) (reached node o s)
+    → OnActed (λ v. λ t. HoldsBy E p sorts sees (Replied E p s i.own) (call (operands node []) give) t) (λ h. E h) (reached p node o s)
 reach_holds E p sorts sees c node s i None e = c.missing node i.own i.has e
-reach_holds E p sorts sees c node s i (Some op) e = by_step (takes_step op.work)
+reach_holds E p sorts sees c node s i (Some op) e = by_steps (nat_lt s.steps (steps_of p op))
   where
     on : (t : World) → Beside p s t → HoldsBy E p sorts sees (Replied E p s i.own) (call (operands node []) give) t
     on t b =
         let B : Bool → Type 0 = λ x. At p (entered_by op.work) x s t in
         (inl (record { own = i.own; has = i.has; op = op; op_is = e; base = s; well = i.well; seen = i.seen; at = subst B (sym (not_open op.work op.parts)) b; given = tt }), (λ v u h. h, λ h' h. h))
 
-    by_steps : (n : ℕ) → OnActed (λ v. λ t. HoldsBy E p sorts sees (Replied E p s i.own) (call (operands node []) give) t) (λ h. E h) (stepped node s n)
-    by_steps zero = c.no_step node
-    by_steps (suc n) =
-        on (record s { steps = n }) (record { well = record { sound = i.well.sound; entered = i.well.entered }; continues = continues-refl s.memory; bindings = refl })
+    left : World
+    left = record s { steps = s.steps - steps_of p op }
 
-    by_step : (b : Bool) → OnActed (λ v. λ t. HoldsBy E p sorts sees (Replied E p s i.own) (call (operands node []) give) t) (λ h. E h) (reached_by node s b)
-    by_step true = by_steps s.steps
-    by_step false = on s (record { well = i.well; continues = continues-refl s.memory; bindings = refl })
+    by_steps : (few : Bool) → OnActed (λ v. λ t. HoldsBy E p sorts sees (Replied E p s i.own) (call (operands node []) give) t) (λ h. E h) (if few then stops (Left 1) node else went next left)
+    by_steps true = c.no_step node
+    by_steps false =
+        on left (record { well = record { sound = i.well.sound; entered = i.well.entered }; continues = continues-refl s.memory; bindings = refl })
 
 op_holds : (E : Halt → Type 0) (p : Program) (sorts : ℕ → Option Sort) (sees : ℕ → ℕ → Bool) → Course E p sorts sees → (node : ℕ) (done : List Answer) (s : World)
     (i : Going p sorts sees node done s ⊎ Rooted p sorts sees node done s)

@@ -35,7 +35,7 @@ int main(){return 0¦+1¦¦¦;}¦130 lawful¦2000 lawful
 "#;
 
 // How many steps a run may take, what it comes to, and the file. An expression that is evaluated and a statement that is executed take
-// one each, and a declaration none.
+// one each, and a declaration none; 64 cells that are read, assigned, chosen, passed, returned or begun with take one more.
 const STEPS: &str = r#"
 1¦lawful 0¦int main(){}
 0¦left 1 1¦int main(){}
@@ -58,6 +58,12 @@ const STEPS: &str = r#"
 9999¦left 1 1¦int main ( ) { int i = 3 ; L : if ( i ) ; { i -- ; goto L ; } return i ; }
 9999¦left 1 1¦int main ( ) { int i = 3 ; L : if ( i ) { i ; goto L ; } return i ; }
 100000¦left 1 2¦int main(void)\n{ while (1); }
+5¦lawful 0¦struct s{char a[63];}x,y;int main(){x=y;}
+7¦lawful 0¦struct s{char a[64];}x,y;int main(){x=y;}
+6¦left 1 3¦struct s{char a[64];}x,y;int main(){\nx=\ny;}
+3¦left 1 2¦struct s{char a[64];}x,y;int main(){\nx=\ny;}
+16393¦lawful 0¦struct s{char a[262144];}x,y;int main(){x=y;x=y;}
+16392¦left 1 2¦struct s{char a[262144];}x,y;int main(){x=y;x=\ny;}
 "#;
 
 // How many cells may live at once, what a run comes to, and the file: objects of static duration and literals in order of their tokens,

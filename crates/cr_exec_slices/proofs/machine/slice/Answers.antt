@@ -1,15 +1,14 @@
-use Rattle.std.proofs.Common.{◌≡◌, Ok, Some, List, Result, refl, sym, ◌∙◌, ap, arith}
+use Rattle.std.proofs.Common.{◌≡◌, Ok, List, Result, refl, ◌∙◌, ap, arith}
 use Rattle.cr_meaning_seen.specs.Marks.{Mark}
 use Rattle.cr_exec_slices.specs.Shown.{place_of}
 use Rattle.cr_exec_slices.specs.declared.machine.Turned.{Turned}
 use Rattle.cr_exec_slices.specs.declared.machine.Turned.TheVariants.{Goes, Came}
 use Rattle.cr_exec_slices.specs.declared.nodes.Halted.{Halted}
 use Rattle.cr_exec_slices.proofs.Keeping.{handed_on, continues_all, continues_turned}
-use Rattle.cr_exec_slices.proofs.Looking.{still_ahead}
 use Rattle.cr_exec_slices.proofs.machine.slice.Goals as goal
 
-pub returns-then-is_at-clause-turns : goal.returns-then-is_at-clause-turns
-returns-then-is_at-clause-turns g c = λ waiting h marks n. record { turns = c.loop-until.invariant.continues waiting h marks n }
+pub returns-then-is_over-clause-turns : goal.returns-then-is_over-clause-turns
+returns-then-is_over-clause-turns g c = λ waiting h marks n. record { turns = c.loop-until.invariant.continues waiting h marks n }
 
 pub returns-in_err-next-clause-turns : goal.returns-in_err-next-clause-turns
 returns-in_err-next-clause-turns g c = λ waiting h marks n.
@@ -34,7 +33,6 @@ pub loop-until-preserved : goal.loop-until-preserved
 loop-until-preserved g c =
     let F : Turned → Result Turned Halted = λ x. Ok x in
     let is : Ok c.in_ok-next.field-0 ≡ Ok (Goes c.in-Goes.next) = ap F c.in-Goes.is in
-    let step = c.turn.ensures.steps in
     record {
       continues = λ waiting h marks n.
           let now : List Mark → Type 0 = g.N.Nodes.has_seen c.turn.new.nodes in
@@ -43,6 +41,5 @@ loop-until-preserved g c =
           (g.N.Nodes.world c.loop-until.nodes) (g.N.Nodes.world c.turn.new.nodes) (Ok c.in_ok-next.field-0) (c.loop-until.invariant.continues waiting h marks n) c.loop-until.invariant.program is
           (λ w i more m. c.in_ok-next.ensures.turns w i more m);
       program = c.turn.ensures.program ∙ c.loop-until.invariant.program;
-      fewer = let k = step.kept in omega (arith, k, c.loop-until.invariant.fewer);
-      within = still_ahead c.args.until (g.N.Nodes.world c.loop-until.nodes).steps (g.N.Nodes.world c.turn.new.nodes).steps c.loop-until.invariant.within (λ e. c.if-is_at.ensures (e ∙ ap (λ k. Some k) (sym c.steps-steps.ensures))) step.few;
+      fewer = omega (arith, c.turn.ensures.fewer, c.loop-until.invariant.fewer);
     }

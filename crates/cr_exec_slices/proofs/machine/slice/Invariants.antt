@@ -1,5 +1,4 @@
 use Rattle.std.proofs.Common.{◌≡◌, ◌≤◌, ◌+◌, ◌*◌, List}
-use Rattle.std.specs.Prelude.{IfSome}
 use Rattle.cr_meaning.specs.World.{Answer}
 use Rattle.cr_meaning_seen.specs.Marks.{Mark}
 use Rattle.cr_exec_stack.specs.Waiting.{Waiting}
@@ -14,7 +13,6 @@ invariant-loop-until g l = record {
       l.point l.stack (g.N.Nodes.world l.nodes);
   program : g.N.Nodes.program l.nodes ≡ g.N.Nodes.program l.fn.nodes;
   fewer : (g.N.Nodes.world l.nodes).steps ≤ (g.N.Nodes.world l.fn.nodes).steps;
-  within : IfSome l.until (λ steps. steps ≤ (g.N.Nodes.world l.nodes).steps);
 }
 
 abbrev pub decreases-loop-until : goal.decreases-loop-until
