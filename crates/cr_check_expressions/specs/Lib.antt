@@ -1,5 +1,6 @@
 pub mod Forms
 pub mod Known
+pub mod Found
 pub mod Ruled
 pub mod Breaks
 pub mod Used

@@ -1,11 +1,14 @@
 ghost use Rattle.std.specs.Prelude.{◌≡◌, [], None, length, slice_index_or};
 ghost use Rattle.cr_syntax.specs.Words.{AreSpans};
-ghost use Rattle.cr_check_expressions.specs.Known.{spelling_of, declared_by, parameters_in, member_row, row_of_name, named_row};
+ghost use Rattle.std.specs.HashMap.{get};
+ghost use Rattle.cr_check_expressions.specs.Found.{AreFound, same_name};
+ghost use Rattle.cr_check_expressions.specs.Known.{spelling_of, declared_by, parameters_in, member_row, named_row};
 
 use cr_check_types::Layout;
 use cr_rows::{Row, entry_at, row_at};
 use cr_syntax::{Node, spelling_at};
 use cr_tokens::Token;
+use std::collections::HashMap;
 
 /// What a node declares. A number is that of a row of types.
 #[derive(Clone, Copy)]
@@ -33,7 +36,7 @@ pub struct Member {
 
 /// What is known of a unit where its expressions are judged. Where nothing else is said a column has one entry a node, and
 /// what is not there is as nothing known.
-#[derive(Clone, Copy)]
+#[derive(Drop)]
 pub struct Known<'a> {
     pub file: &'a [u8],
     pub tokens: &'a [Token],
@@ -50,12 +53,15 @@ pub struct Known<'a> {
     pub named: &'a [u32],
     /// The members of each structure, at its content.
     pub members: &'a [Row<Member>],
+    /// The row of each member by its structure and its name.
+    pub found: &'a HashMap<(u32, u32), u32>,
     /// The layout of each structure, at its content.
     pub layouts: &'a [Layout],
     /// Whether a structure has a constant member, also in a member or an element of one.
     pub fixed: &'a [bool],
     /// The bytes of each string literal, with its closing zero.
     pub texts: &'a [Row<u8>],
+    pub ghost are_found: { AreFound members.now (get same_name found.now) },
 }
 
 /// The bytes that spell a token; none where there is no token.
@@ -108,18 +114,7 @@ pub(crate) fn member_row(known: &Known, structure: u32, token: u32) -> Option<u3
     ensures { result ≡ member_row known.now.names.now known.now.members.now structure token }
 {
     let name = entry_at(known.names, token as usize, 0);
-    row_of_name(row_at(known.members, structure as usize), name)
-}
-
-fn row_of_name(members: &[Member], name: u32) -> Option<u32>
-    ensures { result ≡ row_of_name name members.now }
-{
-    for member in members {
-        if member.name == name {
-            return Some(member.row);
-        }
-    }
-    None
+    known.found.get(&(structure, name)).copied()
 }
 
 /// The bytes of the string literal at a node, its closing zero among them.

@@ -1,4 +1,5 @@
 pub mod Kept
+pub mod Found
 pub mod Steps
 pub mod Later
 pub mod Unit

@@ -4,6 +4,8 @@ ghost use Rattle.cr_check_types.specs.declared.shape.Shape as shape;
 ghost use Rattle.cr_check_types.specs.Types.{type_at, Grows};
 ghost use Rattle.cr_check_types.specs.Relations.{AreRows};
 ghost use Rattle.cr_check_operands.specs.Values.{seen_at};
+ghost use Rattle.std.specs.HashMap.{get};
+ghost use Rattle.cr_check_expressions.specs.Found.{AreFound, same_name};
 ghost use Rattle.cr_check_expressions.specs.Known.{AreKnown, room_of_declared, spelling_of};
 ghost use Rattle.cr_check_expressions.specs.Forms.{form_of};
 ghost use Rattle.cr_check_expressions.specs.Ruled.{facts_at, ruled};
@@ -27,6 +29,7 @@ use cr_check_types::Table;
 use cr_rows::Row;
 use cr_syntax::Node;
 use std::alloc::{AllocError, Global};
+use std::collections::HashMap;
 
 /// What one node has.
 #[derive(Drop)]
@@ -59,16 +62,18 @@ pub(crate) fn entry_of(
     tree: &Tree,
     texts: &[Row<u8>],
     typing: &Typing,
+    found: &HashMap<(u32, u32), u32>,
     at: u32,
     node: &Node,
 ) -> Result<Entry, AllocError>
+    requires found { AreFound typing.now.members (get same_name found.now) }
     requires spans { AreSpans tree.now.file.now tree.now.tokens.now }
     requires within { AreWithin table.old typing.now }
     ensures within { IfOk result (λ e. IsWithin table.new e) }
     ensures ruled { IfOk result (λ e. (later : List shape.Shape) → Grows table.new later → IsRuled tree.now texts.now later typing.now e at node.now) }
     ensures grows { OnOk result (Grows table.old table.new) }
 {
-    let fact = fact(table, tree, texts, typing, at, node)?;
+    let fact = fact(table, tree, texts, typing, found, at, node)?;
     let columns = columns_of(typing);
     let said = specified(tree, &columns, at, node);
     let own = declarator(table, tree, &columns, at, node);
@@ -125,16 +130,18 @@ fn fact(
     tree: &Tree,
     texts: &[Row<u8>],
     typing: &Typing,
+    found: &HashMap<(u32, u32), u32>,
     at: u32,
     node: &Node,
 ) -> Result<Fact, AllocError>
+    requires found { AreFound typing.now.members (get same_name found.now) }
     requires spans { AreSpans tree.now.file.now tree.now.tokens.now }
     requires within { AreWithin table.old typing.now }
     ensures within { IfOk result (λ f. f.row < length table.new) }
     ensures is { IfOk result (λ f. seen_at table.new f ≡ ruled (form_of node.now.kind) (facts_at table.old typing.now.facts) (source_in (type_at table.old) tree.now texts.now typing.now) at node.now) }
     ensures grows { OnOk result (Grows table.old table.new) }
 {
-    let known = known_of(tree, texts, typing);
+    let known = known_of(tree, texts, typing, found);
     rule(table, &known, typing.facts.as_slice(), at, node)
 }
 
@@ -145,16 +152,18 @@ pub(crate) fn broken(
     tree: &Tree,
     texts: &[Row<u8>],
     typing: &Typing,
+    found: &HashMap<(u32, u32), u32>,
     entry: &Entry,
     at: u32,
     node: &Node,
 ) -> Result<Option<Break>, AllocError>
+    requires found { AreFound typing.now.members (get same_name found.now) }
     requires spans { AreSpans tree.now.file.now tree.now.tokens.now }
     requires within { AreWithin table.now typing.now }
     requires entry { IsWithin table.now entry.now }
     ensures { IfOk result (λ b. b ≡ lesser (first_of (expression_faults tree.now texts.now table.now typing.now entry.now at (Some node.now))) (lesser (first_of (declaration_faults tree.now table.now typing.now entry.now at (Some node.now))) (lesser (first_of (initialiser_faults tree.now table.now typing.now entry.now at (Some node.now))) (first_of (linked_faults tree.now table.now typing.now entry.now at (Some node.now)))))) }
 {
-    let known = known_of(tree, texts, typing);
+    let known = known_of(tree, texts, typing, found);
     let expression = expression_break(table, &known, typing.facts.as_slice(), at, node, entry.fact);
     let columns = columns_of(typing);
     let own = entry.own;

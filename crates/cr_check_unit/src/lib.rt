@@ -6,6 +6,7 @@
 #![tactic(auto)]
 
 mod entry;
+mod found;
 mod laws;
 mod nodes;
 mod statements;

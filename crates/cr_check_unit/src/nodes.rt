@@ -1,20 +1,24 @@
-ghost use Rattle.std.specs.Prelude.{◌≡◌, ◌<◌, IfOk, OnOk, List, length, slice_get};
+ghost use Rattle.std.specs.Prelude.{◌≡◌, ◌<◌, ℕ, [], slice_index_or, IfOk, OnOk, List, length, slice_get};
 ghost use Rattle.cr_syntax.specs.Words.{AreSpans};
 ghost use Rattle.cr_check_types.specs.declared.shape.Shape as shape;
 ghost use Rattle.cr_check_types.specs.Types.{unknown, IsRow, Grows};
+ghost use Rattle.std.specs.HashMap.{get};
+ghost use Rattle.cr_check_expressions.specs.Found.{AreFound, found_in, or_else, same_name};
 ghost use Rattle.cr_check_expressions.specs.Breaks.{first_of, lesser, IsFirst};
 ghost use Rattle.cr_check_unit.specs.Typing.{nothing_typed, IsRuledIf, IsTyping, IsWithin, AreWithin};
 ghost use Rattle.cr_check_unit.specs.Breaks.{expression_faults, declaration_faults, initialiser_faults, linked_faults, IsBroken};
 
 use crate::entry::{Entry, broken, entry_of};
+use crate::found::put_members;
 use crate::typing::{Typing, empty, make_room, push};
 use cr_check_declarations::Tree;
 use cr_check_expressions::{Break, lesser};
 use cr_check_types::Table;
 use cr_holding::holding;
-use cr_rows::Row;
+use cr_rows::{Row, row_at};
 use cr_syntax::number_of;
 use std::alloc::{AllocError, Global};
+use std::collections::HashMap;
 
 /// What each node of a unit has, and the first constraint that an expression or a declaration breaks.
 #[derive(Drop)]
@@ -63,12 +67,26 @@ fn check_each(
 {
     make_room(typing, tree.nodes.len())?;
     let mut broken = None;
+    let mut found = HashMap::new(alloc);
     for at in 0..tree.nodes.len() {
-        let one = check_node(alloc, table, tree, texts, typing, at)?;
+        let one = check_node(alloc, table, tree, texts, typing, &found, at)?;
         broken = lesser(broken, one.broken);
         push(typing, one.entry)?;
+        put_last(&mut found, typing, at)?;
     }
     Ok(broken)
+}
+
+// The members of a node by their names.
+fn put_last(
+    found: &mut HashMap<(u32, u32), u32>,
+    typing: &Typing,
+    at: usize,
+) -> Result<(), AllocError>
+    ensures { OnOk result ((q : ℕ × ℕ) → get same_name found.new q ≡ or_else (found_in at (slice_index_or typing.now.members at []) q) (get same_name found.old q)) }
+{
+    let number = number_of(at)?;
+    put_members(found, number, row_at(typing.members.as_slice(), at))
 }
 
 /// What a node has, and the first row that it breaks.
@@ -84,8 +102,10 @@ fn check_node(
     tree: &Tree,
     texts: &[Row<u8>],
     typing: &Typing,
+    found: &HashMap<(u32, u32), u32>,
     at: usize,
 ) -> Result<One, AllocError>
+    requires found { AreFound typing.now.members (get same_name found.now) }
     requires low { at < length tree.now.nodes.now }
     requires spans { AreSpans tree.now.file.now tree.now.tokens.now }
     requires within { AreWithin table.old typing.now }
@@ -96,7 +116,7 @@ fn check_node(
 {
     let number = number_of(at)?;
     let node = &tree.nodes[at];
-    let entry = entry_of(alloc, table, tree, texts, typing, number, node)?;
-    let broken = broken(alloc, table, tree, texts, typing, &entry, number, node)?;
+    let entry = entry_of(alloc, table, tree, texts, typing, found, number, node)?;
+    let broken = broken(alloc, table, tree, texts, typing, found, &entry, number, node)?;
     Ok(One { entry, broken })
 }

@@ -1,6 +1,8 @@
 ghost use Rattle.std.specs.Prelude.{◌≡◌, ◌++◌, ◌∷◌, [], ℕ, List, IfOk, OnOk, length};
 ghost use Rattle.cr_check_types.specs.declared.shape.Shape as shape;
 ghost use Rattle.cr_check_types.specs.Types.{Qualified};
+ghost use Rattle.std.specs.HashMap.{get};
+ghost use Rattle.cr_check_expressions.specs.Found.{AreFound, same_name};
 ghost use Rattle.cr_check_expressions.specs.Known.{source_of, AreKnown};
 ghost use Rattle.cr_check_declarations.specs.Before.{before_at};
 ghost use Rattle.cr_check_initialised.specs.Known.{AreReady};
@@ -17,6 +19,7 @@ use cr_check_operands::Fact;
 use cr_check_types::Layout;
 use cr_rows::Row;
 use std::alloc::{AllocError, Global};
+use std::collections::HashMap;
 
 /// What the nodes of a unit have: columns with one entry a node. A number is that of a row of types.
 #[derive(Drop)]
@@ -151,7 +154,9 @@ pub(crate) fn known_of<'a>(
     tree: &'a Tree<'a>,
     texts: &'a [Row<u8>],
     typing: &'a Typing,
+    found: &'a HashMap<(u32, u32), u32>,
 ) -> Known<'a>
+    requires { AreFound typing.now.members (get same_name found.now) }
     ensures file { result.file.now ≡ tree.now.file.now }
     ensures tokens { result.tokens.now ≡ tree.now.tokens.now }
     ensures nodes { result.nodes.now ≡ tree.now.nodes.now }
@@ -168,6 +173,7 @@ pub(crate) fn known_of<'a>(
         parameters: typing.parameters.as_slice(),
         named: typing.named.as_slice(),
         members: typing.members.as_slice(),
+        found,
         layouts: typing.layouts.as_slice(),
         fixed: typing.fixed.as_slice(),
         texts,
