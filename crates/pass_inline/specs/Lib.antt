@@ -1,3 +1,4 @@
 pub mod Callees
+pub mod Places
 pub mod Spelled
 pub mod Inlined

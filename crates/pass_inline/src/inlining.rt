@@ -1,6 +1,6 @@
 // Pass i: calls become what they call.
-ghost use Rattle.std.specs.Prelude.{◌≡◌, ◌++◌, ◌&&◌, None, Some, length, nat_le, slice_index_or, IfOk, OnOk};
-ghost use Rattle.std.specs.List.{flat_map, list_all};
+ghost use Rattle.std.specs.Prelude.{◌≡◌, ◌++◌, ◌&&◌, None, Some, length, nat_le, slice_get, slice_index_or, IfOk, OnOk};
+ghost use Rattle.std.specs.List.{flat_map, list_all, position};
 ghost use Rattle.pass_levels.specs.Gathered.{gathered};
 ghost use Rattle.pass_levels.specs.Level.{level_of};
 ghost use Rattle.pass_levels.specs.Nodes.{node_at};
@@ -9,7 +9,8 @@ ghost use Rattle.pass_inline.specs.Inlined.{call_by, call_gives, callee_at, call
 ghost use Rattle.pass_inline.specs.declared.known.Way.TheVariants.{Block, Expression};
 
 use crate::callees::{Body, Callee, Declared, callees_in, declared_in, is_within};
-use crate::known::{Known, Way};
+use crate::known::{Known, Way, placed};
+use crate::places::places_by;
 use crate::spelled::{arguments_in, forms_of};
 use cr_rows::Row;
 use cr_scopes::Names;
@@ -43,11 +44,40 @@ fn put_definition(
     Ok(())
 }
 
+// Where an entity has a row, its functions alone are gone through.
 fn put_definitions(
     known: &Known,
     number: Option<u32>,
     changes: &mut Vec<Change>,
 ) -> Result<(), AllocError>
+    ensures { OnOk result (changes.new.items ≡ changes.old.items ++ flat_map (definition_goes (facts_of known.now) number) known.now.callees.now) }
+{
+    match placed(known, number) {
+        Some(places) => put_placed(known, number, places, changes),
+        None => put_any(known, number, changes),
+    }
+}
+
+fn put_placed(
+    known: &Known,
+    number: Option<u32>,
+    places: &[u32],
+    changes: &mut Vec<Change>,
+) -> Result<(), AllocError>
+    ensures { OnOk result (changes.new.items ≡ changes.old.items ++ flat_map (λ at. definition_goes (facts_of known.now) number (callee_at known.now.callees.now at)) places.now) }
+{
+    for at in places {
+        put_definition(
+            known,
+            number,
+            callee_at(known.callees, *at as usize),
+            changes,
+        )?;
+    }
+    Ok(())
+}
+
+fn put_any(known: &Known, number: Option<u32>, changes: &mut Vec<Change>) -> Result<(), AllocError>
     ensures { OnOk result (changes.new.items ≡ changes.old.items ++ flat_map (definition_goes (facts_of known.now) number) known.now.callees.now) }
 {
     for callee in known.callees {
@@ -180,8 +210,25 @@ fn place_of(known: &Known, token: u32) -> Option<usize>
     ensures { result ≡ place_of (facts_of known.now) token }
 {
     let number = number_of(known.names, token);
-    known
-        .callees
+    match placed(known, number) {
+        Some(places) => first_of(places),
+        None => any_place(known.callees, number),
+    }
+}
+
+fn first_of(places: &[u32]) -> Option<usize>
+    ensures { result ≡ slice_get places.now 0 }
+{
+    match places {
+        [first, ..] => Some(*first as usize),
+        [] => None,
+    }
+}
+
+fn any_place(callees: &[Callee], number: Option<u32>) -> Option<usize>
+    ensures { result ≡ position (λ callee. same_by number callee.number) callees.now }
+{
+    callees
         .iter()
         .position(|callee| same_number(number, callee.number))
 }
@@ -359,8 +406,8 @@ fn kept(
 /// What pass i offers for a unit with these names: at level 0 each call of a function whose body is `return E;` becomes E in parentheses,
 /// with the arguments in parentheses in place of the parameters; at level 1 each expression statement that calls a function without return
 /// becomes a block with the parameters, initialised by the arguments, and the function's body. Calls within the function's own definition
-/// stay, and where the call is the only use of its function, that goes with its declarations. It takes time by the calls times the
-/// functions, and for those that go times the declarations. The error is want of memory.
+/// stay, and where the call is the only use of its function, that goes with its declarations. It takes time by the calls, and
+/// for those that go times the declarations. The error is want of memory.
 pub fn inlined(alloc: Global, unit: &Unit, names: &Names) -> Result<Menu, AllocError>
     ensures { IfOk result (λ menu. menu ≡ i_offering unit.now.tokens.list.items unit.now.nodes names.now) }
 {
@@ -377,12 +424,14 @@ fn menu(alloc: Global, tokens: &[Token], nodes: &[Node], names: &Names) -> Resul
 {
     let callees = callees_in(alloc, nodes, names)?;
     let declared = declared_in(alloc, nodes, names)?;
+    let places = places_by(alloc, names.entities.len(), callees.as_slice())?;
     let known = Known {
         tokens,
         nodes,
         names,
         callees: callees.as_slice(),
         declared: declared.as_slice(),
+        places: places.as_slice(),
     };
     let mut levels = Vec::new(alloc);
     levels.push(calls_level(alloc, &known)?)?;

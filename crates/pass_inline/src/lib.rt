@@ -9,6 +9,7 @@
 mod callees;
 mod inlining;
 mod known;
+mod places;
 mod spelled;
 
 pub use inlining::inlined;

@@ -43,9 +43,9 @@ fn call_number(nodes: &[Node], names: &Names, call: u32) -> Option<u32>
     number_of(names, first)
 }
 
-// A row without items for each of so many entities.
+/// A row without items for each of so many entities. The error is want of memory.
 #[tactic(auto, using(crate::proofs::Grouping::one_empty))]
-fn empty_rows(alloc: Global, count: usize) -> Result<Vec<Row<u32>>, AllocError>
+pub fn empty_rows(alloc: Global, count: usize) -> Result<Vec<Row<u32>>, AllocError>
     ensures { IfOk result (λ rows. (entity : ℕ) → slice_index_or rows.items entity [] ≡ []) }
 {
     let mut rows = Vec::new(alloc);
@@ -55,9 +55,9 @@ fn empty_rows(alloc: Global, count: usize) -> Result<Vec<Row<u32>>, AllocError>
     Ok(rows)
 }
 
-// Puts an item behind those of its entity, where that has a row.
+/// Puts an item behind those of its entity, where that has a row. The error is want of memory.
 #[tactic(auto, using(crate::proofs::Grouping::nothing_put))]
-fn put(rows: &mut Vec<Row<u32>>, number: Option<u32>, item: u32) -> Result<(), AllocError>
+pub fn put(rows: &mut Vec<Row<u32>>, number: Option<u32>, item: u32) -> Result<(), AllocError>
     ensures { OnOk result (IsPut number item rows.old.items rows.new.items) }
 {
     match number {

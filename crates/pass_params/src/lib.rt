@@ -11,5 +11,6 @@ mod ordered;
 mod removal;
 
 pub use functions::{number, number_of, part_at, row_of, same_number, uses_of};
+pub use grouped::{empty_rows, put};
 pub use ordered::in_order;
 pub use removal::parameters;
