@@ -4,4 +4,5 @@ pub mod Lookups
 pub mod Listed
 pub mod Grown
 pub mod Marks
+pub mod Numbers
 pub mod Alike

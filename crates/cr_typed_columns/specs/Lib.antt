@@ -1,6 +1,7 @@
 pub mod Reading
 pub mod Entities
 pub mod Expressions
+pub mod Numbers
 pub mod Names
 pub mod Functions
 pub mod Levels

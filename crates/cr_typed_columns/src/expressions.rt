@@ -1,11 +1,13 @@
 // What expressions have in a run.
-ghost use Rattle.std.specs.Prelude.{◌≡◌, ◌<◌, ◌≤◌, ◌&&◌, ◌||◌, ◌==◌, ℕ, [], Some, IfOk, length, map, not, slice_get, slice_index_or, false};
+ghost use Rattle.std.specs.Prelude.{◌≡◌, ◌<◌, ◌≤◌, ◌&&◌, ◌||◌, ◌==◌, ℕ, [], Some, IfOk, OnOk, length, map, not, slice_get, slice_index_or, false};
 ghost use Rattle.std.specs.List.{list_any};
+ghost use Rattle.std.specs.HashMap.{get};
 ghost use Rattle.cr_check_types.specs.Types.{type_at, type_of};
 ghost use Rattle.cr_check_operands.specs.Values.{seen_at};
 ghost use Rattle.cr_check_operands.specs.Places.{structure_in as structure_in_lem};
 ghost use Rattle.cr_typed_columns.specs.Reading.{entry_of};
 ghost use Rattle.cr_typed_columns.specs.Rows.{listed, type_in};
+ghost use Rattle.cr_typed_columns.specs.Numbers.{AreNumbers, numbered, or_else, same_name};
 ghost use Rattle.cr_typed_columns.specs.Expressions.{seen_of, type_of_node, value_in, constant_of as constant_of_lem, is_array as is_array_lem, fills_array, is_filling, form_if, is_part, valued_of as valued_of_lem, pointed_structure as pointed_structure_lem, structure_by as structure_by_lem, number_of_name, last_if, chosen_of as chosen_of_lem};
 
 use crate::checked::CheckedColumns;
@@ -18,8 +20,9 @@ use cr_check_initialisers::Line;
 use cr_check_operands::Fact;
 use cr_check_types::Table;
 use cr_rows::{Row, entry_at, row_at};
-use cr_syntax::{CType, Kind, Node, kind_at};
+use cr_syntax::{CType, Kind, Node, kind_at, number_of};
 use std::alloc::{AllocError, Global};
+use std::collections::HashMap;
 
 fn fact_of(checked: &CheckedColumns, node: Option<u32>) -> Fact
     ensures { seen_at checked.now.table.now result ≡ seen_of checked.now node }
@@ -219,14 +222,55 @@ fn structure_by(table: &Table, kind: Option<Kind>, row: u32) -> Option<u32>
     }
 }
 
-fn number_of_name(name: u32, members: &[Member]) -> usize
-    ensures { result ≡ number_of_name name members.now }
+// Puts the number of each member of a structure by its name, the last first, so that of several of one name the first counts.
+fn put_members(
+    numbers: &mut HashMap<(u32, u32), usize>,
+    structure: u32,
+    members: &[Member],
+) -> Result<(), AllocError>
+    ensures { OnOk result ((q : ℕ × ℕ) → get same_name numbers.new q ≡ or_else (numbered structure 0 members.now q) (get same_name numbers.old q)) }
 {
-    let mut number = 0;
-    while number < members.len() && members[number].name != name {
-        number += 1;
+    let mut left = members.len();
+    while left > 0 {
+        left -= 1;
+        numbers.insert((structure, members[left].name), left)?;
     }
-    number
+    Ok(())
+}
+
+// The number of each member by its structure and its name.
+#[tactic(auto, using(crate::proofs::Numbers::all_numbers))]
+fn numbers_of(
+    alloc: Global,
+    members: &[Row<Member>],
+) -> Result<HashMap<(u32, u32), usize>, AllocError>
+    ensures { IfOk result (λ numbers. AreNumbers members.now (get same_name numbers)) }
+{
+    let mut numbers = HashMap::new(alloc);
+    for structure in 0..members.len() {
+        let number = number_of(structure)?;
+        put_members(&mut numbers, number, members[structure].as_slice())?;
+    }
+    Ok(numbers)
+}
+
+#[tactic(auto, using(crate::proofs::Numbers::number_there, crate::proofs::Numbers::number_missing))]
+fn number_in(
+    numbers: &HashMap<(u32, u32), usize>,
+    members: &[Row<Member>],
+    structure: Option<u32>,
+    name: u32,
+) -> usize
+    requires { AreNumbers members.now (get same_name numbers.now) }
+    ensures { result ≡ number_of_name name (entry_of members.now [] structure) }
+{
+    match structure {
+        Some(structure) => match numbers.get(&(structure, name)).copied() {
+            Some(number) => number,
+            None => row_at(members, structure as usize).len(),
+        },
+        None => 0,
+    }
 }
 
 fn last_at(nodes: &[Node], at: usize) -> u32
@@ -235,25 +279,22 @@ fn last_at(nodes: &[Node], at: usize) -> u32
     if at < nodes.len() { nodes[at].last } else { 0 }
 }
 
-fn members_of<'a>(members: &'a [Row<Member>], structure: Option<u32>) -> &'a [Member]
-    ensures { result.now ≡ entry_of members.now [] structure }
-{
-    match structure {
-        Some(structure) => row_at(members, structure as usize),
-        None => &[],
-    }
-}
-
-fn chosen_of(nodes: &[Node], checked: &CheckedColumns, at: usize) -> usize
+fn chosen_of(
+    nodes: &[Node],
+    checked: &CheckedColumns,
+    numbers: &HashMap<(u32, u32), usize>,
+    at: usize,
+) -> usize
+    requires { AreNumbers checked.now.members.now (get same_name numbers.now) }
     ensures { result ≡ chosen_of_lem nodes.now checked.now at }
 {
     let name = entry_at(checked.spellings, last_at(nodes, at) as usize, 0);
     let row = fact_of(checked, part_at(nodes, at, 0)).row;
     let structure = structure_by(checked.table, kind_at(nodes, at), row);
-    number_of_name(name, members_of(checked.members, structure))
+    number_in(numbers, checked.members, structure, name)
 }
 
-/// The number of the member that each `.` and `->` names.
+/// The number of the member that each `.` and `->` names, which is looked up by its structure and its name.
 #[tactic(auto, using(crate::proofs::Listed::one_more))]
 pub(crate) fn chosen(
     alloc: Global,
@@ -262,9 +303,10 @@ pub(crate) fn chosen(
 ) -> Result<Row<usize>, AllocError>
     ensures { IfOk result (λ chosen. chosen ≡ listed (chosen_of_lem nodes.now checked.now) (length nodes.now)) }
 {
+    let numbers = numbers_of(alloc, checked.members)?;
     let mut chosen = Row::new(alloc);
     for at in 0..nodes.len() {
-        chosen.push(chosen_of(nodes, checked, at))?;
+        chosen.push(chosen_of(nodes, checked, &numbers, at))?;
     }
     Ok(chosen)
 }
