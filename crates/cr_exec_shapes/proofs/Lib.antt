@@ -4,4 +4,5 @@ pub mod Parts
 pub mod Beyond
 pub mod Open
 pub mod Listed
+pub mod Firsts
 pub mod Sums

@@ -1,5 +1,5 @@
 -- Rows of a kind, as a list that rises.
-use Rattle.std.proofs.Common.{◌≡◌, ◌<◌, ◌+◌, ◌++◌, ◌∷◌, [], ℕ, List, Bool, true, false, inl, inr, refl, sym, ap, ◌∙◌, arith, length, slice_index_or, length-append}
+use Rattle.std.proofs.Common.{◌≡◌, ◌<◌, ◌≤◌, ◌+◌, ◌++◌, ◌∷◌, ◌&&◌, [], ℕ, List, Bool, true, false, inl, inr, refl, sym, ap, ◌∙◌, arith, cond, length, slice_index_or, length-append}
 use Rattle.std.proofs.Math.ListN.{get_or-append}
 use Rattle.std.proofs.Math.Seq.{get_or-append_seam}
 use Rattle.std.proofs.lemmas.List.{append-nil}
@@ -8,9 +8,10 @@ use Rattle.cr_check_types.specs.declared.shape.Shape.{Shape}
 use Rattle.cr_check_types.specs.Types.{Qualified, plain, pointer, array, type_at}
 use Rattle.cr_check_types.specs.Relations.{are_compatible}
 use Rattle.cr_check_types.specs.Shared.{IsCanonical}
-use Rattle.cr_exec_shapes.specs.Open.{is_open, is_array, AreListed, listed_if}
+use Rattle.cr_exec_shapes.specs.Open.{is_open, is_array, is_open_array, AreListed, listed_if}
+use Rattle.cr_exec_shapes.specs.Twins.{IsTwin, IsSought}
 use Rattle.cr_meaning_operations.specs.Shapes.{unqualified}
-use Rattle.cr_exec_shapes.proofs.Open.{closed_apart}
+use Rattle.cr_exec_shapes.proofs.Open.{closed_apart, closed_same, open_bare}
 
 pub listed_none : (test : Qualified → Bool) (shapes : List Shape) → AreListed test shapes [] 0
 listed_none test shapes = record {
@@ -99,12 +100,12 @@ none_before shapes rows row at canonical h within closed none other low before =
 ]
 
 -- a smaller row is listed before
-pub is_before : (test : Qualified → Bool) (shapes : List Shape) (rows : List ℕ) (row at k : ℕ) → AreListed test shapes rows row → at < length rows → k < length rows
-    → slice_index_or rows k 0 < slice_index_or rows at 0 → k < at
-is_before test shapes rows row at k h lt within less = elim (cases_lt k at) [
+pub rises_before : (rows : List ℕ) (at k : ℕ) → ((left right : ℕ) → left < right → right < length rows → slice_index_or rows left 0 < slice_index_or rows right 0)
+    → at < length rows → k < length rows → slice_index_or rows k 0 < slice_index_or rows at 0 → k < at
+rises_before rows at k rising lt within less = elim (cases_lt k at) [
   | inl low ↦ low
   | inr high ↦ elim (cases_lt at k) [
-    | inl over ↦ let rising = h.rising at k over within in absurd (omega (arith, rising, less))
+    | inl over ↦ let more = rising at k over within in absurd (omega (arith, more, less))
     | inr same ↦
         let e : k ≡ at = omega (arith, high, same) in
         let f : slice_index_or rows k 0 ≡ slice_index_or rows at 0 = ap (λ i. slice_index_or rows i 0) e in
@@ -112,18 +113,9 @@ is_before test shapes rows row at k h lt within less = elim (cases_lt k at) [
   ]
 ]
 
--- where no listed row before a place is alike, no row before the one of that place is: a row of another kind never is
-pub none_alike : (test : Qualified → Bool) (alike : Qualified → Bool) (shapes : List Shape) (rows : List ℕ) (row at : ℕ) → AreListed test shapes rows row
-    → ((type : Qualified) → test type ≡ false → alike type ≡ false)
-    → ((k : ℕ) → k < at → alike (type_at shapes (slice_index_or rows k 0)) ≡ false)
-    → (other : ℕ) → other < row → ((k : ℕ) → k < length rows → slice_index_or rows k 0 ≡ other → k < at)
-    → alike (type_at shapes other) ≡ false
-none_alike test alike shapes rows row at h apart none other low before = elim (cases_Bool (test (type_at shapes other))) [
-  | inl is ↦
-      let found = h.all other low is in
-      ap (λ r. alike (type_at shapes r)) (sym found.is) ∙ none found.at (before found.at found.within found.is)
-  | inr not ↦ apart (type_at shapes other) not
-]
+pub is_before : (test : Qualified → Bool) (shapes : List Shape) (rows : List ℕ) (row at k : ℕ) → AreListed test shapes rows row → at < length rows → k < length rows
+    → slice_index_or rows k 0 < slice_index_or rows at 0 → k < at
+is_before test shapes rows row at k h lt within less = rises_before rows at k h.rising lt within less
 
 -- no other type is compatible with an array
 pub arrays_apart : (type own : Qualified) → is_array own ≡ true → is_array type ≡ false → are_compatible (unqualified type) (unqualified own) ≡ false
@@ -134,3 +126,56 @@ arrays_apart (plain of c v) (pointer d w u) is not = absurd (false≢true is)
 arrays_apart (pointer c v t) (array n u) is not = refl
 arrays_apart (pointer c v t) (plain other d w) is not = absurd (false≢true is)
 arrays_apart (pointer c v t) (pointer d w u) is not = absurd (false≢true is)
+
+-- ---- an array among others
+
+-- the types of two rows are alike when qualifiers are left aside
+abbrev alike : List Shape → ℕ → ℕ → Bool
+alike shapes row other = are_compatible (unqualified (type_at shapes other)) (unqualified (type_at shapes row))
+
+like_arrays : (shapes : List Shape) (row other : ℕ) → is_array (type_at shapes row) ≡ true → alike shapes row other ≡ true → is_array (type_at shapes other) ≡ true
+like_arrays shapes row other array is = elim (cases_Bool (is_array (type_at shapes other))) [
+  | inl also ↦ also
+  | inr not ↦ absurd (true≢false (sym is ∙ arrays_apart (type_at shapes other) (type_at shapes row) array not))
+]
+
+-- one that isn't open and is alike is a twin
+like_open : (shapes : List Shape) (row other twin : ℕ) → IsTwin shapes row twin → other < twin → is_open (type_at shapes row) ≡ false → alike shapes row other ≡ true
+    → is_open (type_at shapes other) ≡ true
+like_open shapes row other twin t lt closed is = elim (cases_Bool (is_open (type_at shapes other))) [
+  | inl also ↦ also
+  | inr shut ↦ absurd (t.first other lt (closed_same (unqualified (type_at shapes other)) (unqualified (type_at shapes row))
+      (open_bare (type_at shapes other) ∙ shut) (open_bare (type_at shapes row) ∙ closed) is))
+]
+
+both : (a b : Bool) → a ≡ true → b ≡ true → (a && b) ≡ true
+both a b e f = rw (e, f) refl
+
+pub sought : (shapes : List Shape) (arrays opens others : List ℕ) (row twin : ℕ) (own : Bool) → AreListed is_array shapes arrays row
+    → AreListed is_open_array shapes opens row → IsTwin shapes row twin → own ≡ is_open (type_at shapes row) → others ≡ cond own arrays opens
+    → is_array (type_at shapes row) ≡ true → IsSought (alike shapes row) others row twin
+sought shapes arrays opens others row twin true all some t is e array = rw e (record {
+  below = all.below;
+  rising = all.rising;
+  all = λ other lt like. all.all other (let w = t.within in omega (arith, w, lt)) (like_arrays shapes row other array like);
+})
+sought shapes arrays opens others row twin false all some t is e array = rw e (record {
+  below = some.below;
+  rising = some.rising;
+  all = λ other lt like.
+      some.all other (let w = t.within in omega (arith, w, lt))
+      (both (is_array (type_at shapes other)) (is_open (type_at shapes other)) (like_arrays shapes row other array like)
+      (like_open shapes row other twin t lt (sym is) like));
+})
+
+-- where none of the others before a place is alike, none is before a row that only these stand before
+pub least_sought : (alike : ℕ → Bool) (others : List ℕ) (row twin at least : ℕ) → IsSought alike others row twin
+    → ((k : ℕ) → k < at → alike (slice_index_or others k 0) ≡ false) → least ≤ twin → ((k : ℕ) → k < length others → slice_index_or others k 0 < least → k < at)
+    → (other : ℕ) → other < least → alike other ≡ false
+least_sought alike others row twin at least h none low before other lt = elim (cases_Bool (alike other)) [
+  | inl is ↦
+      let found = h.all other (omega (arith, lt, low)) is in
+      let e = found.is in
+      ap alike (sym e) ∙ none found.at (before found.at found.within (omega (arith, e, lt)))
+  | inr not ↦ not
+]

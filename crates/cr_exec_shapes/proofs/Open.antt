@@ -9,6 +9,7 @@ use Rattle.cr_check_types.specs.Types.{Qualified, plain, pointer, array, type_at
 use Rattle.cr_check_types.specs.Relations.{number_of, same, are_same, sizes_agree, are_compatible}
 use Rattle.cr_check_types.specs.Shared.{IsCanonical}
 use Rattle.cr_check_types.proofs.Shared.{kind_is, kind_of}
+use Rattle.cr_meaning_operations.specs.Shapes.{unqualified}
 use Rattle.cr_exec_shapes.specs.Open.{is_open}
 
 same_kind : (kind other : IntKind) → number_of kind ≡ number_of other → kind ≡ other
@@ -80,7 +81,7 @@ no_part true b e = absurd (false≢true (sym e))
 same_size : (n m : ℕ) → (n == 0) ≡ false → (m == 0) ≡ false → sizes_agree n m ≡ true → n ≡ m
 same_size n m one two agree = eqb-true n m (rw (one, two) at agree)
 
-closed_same : (t u : Qualified) → is_open t ≡ false → is_open u ≡ false → are_compatible t u ≡ true → t ≡ u
+pub closed_same : (t u : Qualified) → is_open t ≡ false → is_open u ≡ false → are_compatible t u ≡ true → t ≡ u
 closed_same (plain of c v) (plain other d w) shut closed agree =
     let (words, flags) = and_parts (are_same of other) (same c d && same v w) agree in
     let (first, second) = and_parts (same c d) (same v w) flags in
@@ -110,3 +111,9 @@ closed_apart shapes canonical row other low within shut closed = elim (cases_Boo
       absurd (omega (arith, one, low))
   | inr differ ↦ differ
 ]
+
+-- a type is open with its qualifiers or without
+pub open_bare : (t : Qualified) → is_open (unqualified t) ≡ is_open t
+open_bare (plain of c v) = refl
+open_bare (pointer c v t) = refl
+open_bare (array n t) = ap (λ b. (n == 0) || b) (open_bare t)

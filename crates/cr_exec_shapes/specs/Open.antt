@@ -1,5 +1,5 @@
 -- Types with an array of unknown size in them: only these are compatible with others than themselves; and rows of types of a kind.
-use Rattle.std.specs.Prelude.{◌≡◌, ◌<◌, ◌==◌, ◌||◌, ℕ, List, [], ◌∷◌, Bool, true, false, length, slice_index_or}
+use Rattle.std.specs.Prelude.{◌≡◌, ◌<◌, ◌==◌, ◌||◌, ◌&&◌, ℕ, List, [], ◌∷◌, Bool, true, false, length, slice_index_or}
 use Rattle.cr_check_types.specs.declared.shape.Shape.{Shape}
 use Rattle.cr_check_types.specs.Types.{Qualified, plain, pointer, array, type_at}
 
@@ -22,6 +22,9 @@ pub record IsAmong (rows : List ℕ) (row : ℕ) : Type 0 where
 abbrev pub is_array : Qualified → Bool
 is_array (array n t) = true
 is_array type = false
+
+abbrev pub is_open_array : Qualified → Bool
+is_open_array type = is_array type && is_open type
 
 -- those with a type of a kind among so many first rows, as they rise
 pub record AreListed (test : Qualified → Bool) (shapes : List Shape) (rows : List ℕ) (count : ℕ) : Type 0 where

@@ -36,7 +36,7 @@ pub(crate) fn rows(table: &Table) -> Result<u32, AllocError>
 }
 
 // Whether an array of unknown size stands in the row's type, by what is known of the rows below.
-fn is_open(table: &Table, marks: &[bool], row: u32) -> bool
+pub(crate) fn is_open(table: &Table, marks: &[bool], row: u32) -> bool
     requires within { row < length table.now }
     requires count { length marks.now ≡ row }
     requires marked { AreMarked table.now marks.now }

@@ -41,7 +41,7 @@ impl<'a> Model for Types<'a> {
 
 impl<'a> Types<'a> {
     /// The types of a unit. Its time grows with the number of different types, times that of those with an array of unknown size in them,
-    /// with the square of that of array types, and with the members of its structures.
+    /// and with the members of its structures.
     pub fn new(alloc: Global, typed: &'a Typed) -> Result<Types<'a>, AllocError>
         requires { IsTyped typed.now }
         ensures { IfOk result (λ types. types ≡ typed.now) }

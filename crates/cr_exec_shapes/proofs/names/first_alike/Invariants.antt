@@ -6,4 +6,4 @@ use Rattle.cr_exec_shapes.proofs.names.first_alike.Given as goal
 
 abbrev pub invariant-loop-at : goal.invariant-loop-at
 invariant-loop-at l =
-    (k : ℕ) → k < l.at → are_compatible (unqualified (type_at l.table (slice_index_or l.arrays k 0))) (unqualified (type_at l.table l.row)) ≡ false
+    (k : ℕ) → k < l.at → are_compatible (unqualified (type_at l.table (slice_index_or l.others k 0))) (unqualified (type_at l.table l.row)) ≡ false
