@@ -64,7 +64,7 @@ for i in $(seq "$count"); do
     [ $((i % 3)) != 0 ] || asked+=(--limit $((20 + i)))
     run before "$older" "${asked[@]}" "$test"
     run now "$program" "${asked[@]}" "$test"
-    diff -r -x 'creduce-*' before now >unlike.txt || { unlike=$((unlike + 1)); echo "file $i, ${asked[*]} $test: $(head -c 300 unlike.txt)"; }
+    diff -r -x 'creduce-*' -x '*.journal-words' before now >unlike.txt || { unlike=$((unlike + 1)); echo "file $i, ${asked[*]} $test: $(head -c 300 unlike.txt)"; }
     turns=$((turns + $(awk '/ turns/ { for (k = 2; k <= NF; k++) if ($k ~ /^turns/) n = $(k - 1) } END { print n + 0 }' now/said)))
     [ "$(replay before "$program")" = "$(replay now "$older")" ] || { replays=$((replays + 1)); echo "file $i: the replays differ"; }
 done
