@@ -57,7 +57,7 @@ pub trait Passes {
     /// A level has no more variants than the file has bytes.
     ghost few: { (p : Self) (file : List ℕ) (o : Offer) (pass level : ℕ) → offers p file o → o.widths pass level ≤ length file };
 
-    /// There are ten passes.
+    /// There are as many passes as `pass_count` says.
     ghost no_more_passes: { (p : Self) (file : List ℕ) (o : Offer) (pass level : ℕ) → offers p file o → pass_count ≤ pass → o.widths pass level ≡ 0 };
 
     /// A pass has at most 16 levels.

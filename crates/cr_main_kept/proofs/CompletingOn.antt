@@ -65,7 +65,7 @@ fit_all : (rows : List Accepted) → All RowFits rows → FitAll rows
 fit_all [] fits = tt
 fit_all (row ∷ more) fits = (fits 0 row (omega arith), fit_all more (λ k d within. fits (suc k) d (omega (arith, within))))
 
--- each row of ten passes is in the form
+-- each row of passes within `pass_count` is in the form
 rows_form : (rows : List Accepted) → InPasses rows → (j : ℕ) → j < length (map row_body rows) → HasRowForm (get_or (map row_body rows) j [])
 rows_form [] low j short = absurd (omega (arith, short))
 rows_form (row ∷ more) low zero short = (refl, low 0 row (omega arith))

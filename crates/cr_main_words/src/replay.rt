@@ -23,7 +23,7 @@ use std::alloc::Global;
 pub struct ReplaySettings {
     /// The most steps of a program's run, 1 to 100,000,000.
     pub steps: u64,
-    /// The passes l t b u s c i p r f, in this order.
+    /// The passes l t b u s c i p r f v o, in this order.
     pub enabled: [bool; 12],
     /// The name of the log.
     pub log: String,

@@ -31,7 +31,7 @@ pub struct Settings {
     pub limit: Option<u64>,
     /// The most steps of a program's run, 1 to 100,000,000.
     pub steps: u64,
-    /// The passes l t b u s c i p r f, in this order.
+    /// The passes l t b u s c i p r f v o, in this order.
     pub enabled: [bool; 12],
     pub test: Test,
     pub source: Source,
